@@ -2,9 +2,8 @@
 use Rattle.std.proofs.Common.{◌≡◌, ◌≢◌, ◌≤◌, ◌⊎◌, ℕ, Bool, true, false, List, Option, Result, Ok, Err, IfSome, IfErr, IfOk, OnOk, ap, inl, inr, refl, arith}
 use Rattle.std.specs.Prelude.{IsErrOf}
 use Rattle.std.specs.Io.KnownBytes.{Keeps}
-use Rattle.stack_core.specs.Reading.{Rest}
+use Rattle.run_options.specs.declared.formats.Format.{Format}
 use Rattle.command_line.specs.declared.plans.Plan.{Plan}
-use Rattle.sent_views.specs.declared.run_facts.RunFacts.{RunFacts}
 use Rattle.flame_tool.specs.KnownRuns.{Succeeds}
 use Rattle.flame_tool.specs.Runs.{ShowsFront}
 use Rattle.flame_tool.specs.StrictRuns.{HasPlainFault}
@@ -114,18 +113,18 @@ pub unfailed_but_at_three : (P : Type 0) (old new : ℕ) (shown : Result Bool Fa
 unfailed_but_at_three P old new (Ok done) other flushes = flushes.1
 unfailed_but_at_three P old new (Err failure) other flushes = counted old new failure other flushes
 
-pub faulty_at_one : (plan : Plan) (told : Option RunFacts) (known : Option (List Rest)) (old new : Option (List ℕ)) (shown : Result Bool Failure)
-    → exit_status shown ≡ 1 → IfErr shown (λ failure. IfSome known (Fails plan told old new failure)) → IfSome known (HasPlainFault plan)
-faulty_at_one plan told known old new (Ok true) one fails = absurd (omega arith)
-faulty_at_one plan told known old new (Ok false) one fails = absurd (omega arith)
-faulty_at_one plan told known old new (Err failure) one fails = failed_faulty plan told known old new failure one fails
+pub faulty_at_one : (plan : Plan) (known : Option (List (Format × List ℕ))) (old new : Option (List ℕ)) (shown : Result Bool Failure)
+    → exit_status shown ≡ 1 → IfErr shown (λ failure. IfSome known (Fails plan old new failure)) → IfSome known (HasPlainFault plan)
+faulty_at_one plan known old new (Ok true) one fails = absurd (omega arith)
+faulty_at_one plan known old new (Ok false) one fails = absurd (omega arith)
+faulty_at_one plan known old new (Err failure) one fails = failed_faulty plan known old new failure one fails
 
-pub front_at_three : (plan : Plan) (told : Option RunFacts) (known : Option (List Rest)) (old new : Option (List ℕ)) (shown : Result Bool Failure)
-    → exit_status shown ≡ 3 → IfErr shown (KeepsOutput old new) → IfErr shown (λ failure. IfSome known (Fails plan told old new failure))
-    → Keeps old new ⊎ IfSome known (ShowsFront plan told old new)
-front_at_three plan told known old new (Ok true) three kept fails = absurd (omega arith)
-front_at_three plan told known old new (Ok false) three kept fails = absurd (omega arith)
-front_at_three plan told known old new (Err failure) three kept fails = failed_front plan told known old new failure three kept fails
+pub front_at_three : (plan : Plan) (known : Option (List (Format × List ℕ))) (old new : Option (List ℕ)) (shown : Result Bool Failure)
+    → exit_status shown ≡ 3 → IfErr shown (KeepsOutput old new) → IfErr shown (λ failure. IfSome known (Fails plan old new failure))
+    → Keeps old new ⊎ IfSome known (ShowsFront plan old new)
+front_at_three plan known old new (Ok true) three kept fails = absurd (omega arith)
+front_at_three plan known old new (Ok false) three kept fails = absurd (omega arith)
+front_at_three plan known old new (Err failure) three kept fails = failed_front plan known old new failure three kept fails
 
 pub types_faulty_at_one : (P : Type 0) (known : Option (List ℕ)) (old new : Option (List ℕ)) (shown : Result Bool Failure)
     → exit_status shown ≡ 1 → IfErr shown (λ failure. P → IfSome known (FailsTypes old new failure)) → P → IfSome known HasTableFault

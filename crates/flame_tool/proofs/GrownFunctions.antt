@@ -4,14 +4,14 @@ use Rattle.std.proofs.lemmas.Bool.{ne_eqb}
 use Rattle.std.specs.Prelude.{◌==◌, IsSome}
 use Rattle.sample_tables.specs.declared.samples.Sample.{Sample}
 use Rattle.stack_core.specs.Interleaving.{list_of}
-use Rattle.stack_core.specs.Reading.{Rest}
+use Rattle.run_options.specs.declared.formats.Format.{Format}
 use Rattle.command_line.specs.Plans.{limit_of}
 use Rattle.command_line.specs.declared.plans.Plan.{Plan}
 use Rattle.command_line.specs.declared.plans.View.{View}
 use Rattle.command_line.specs.declared.plans.View.TheVariants.{Fold, Graph, Chart, Pairs, PairBoxes, Top, Diff}
 use Rattle.opened_sources.specs.declared.failures.Failure.{Failure}
 use Rattle.source_views.specs.Texts.{grown_names, grown_over, growth_line, limit_line, order_of}
-use Rattle.flame_tool.specs.Runs.{lists_of}
+use Rattle.flame_tool.specs.Runs.{wanted_lists}
 use Rattle.flame_tool.specs.checked.Failures.{TellsGrowth}
 
 -- something is said
@@ -62,6 +62,6 @@ pub limit_told : (view : View) (lists : List (List Sample)) (result : Result Boo
 limit_told view lists (Ok is_over) says = limit_said view lists (growth_line view lists) is_over refl says
 limit_told view lists (Err failure) says = tt
 
-pub tells_growth : (plan : Plan) (rests : List Rest) (line : List ℕ) (is_over : Bool) → line ≡ growth_line plan.view (lists_of rests) → is_over ≡ is_said line → TellsGrowth is_over plan rests
-tells_growth plan rests line true is says = said_of_names (limit_of plan.view) (grown_names plan.view (lists_of rests)) (sym (says ∙ ap is_said is))
-tells_growth plan rests line false is says = λ samples. unsaid_names (limit_of plan.view) (grown_names plan.view (lists_of rests)) (no_limit plan.view (lists_of rests)) (sym (says ∙ ap is_said is))
+pub tells_growth : (plan : Plan) (sources : List (Format × List ℕ)) (line : List ℕ) (is_over : Bool) → line ≡ growth_line plan.view (wanted_lists plan sources) → is_over ≡ is_said line → TellsGrowth is_over plan sources
+tells_growth plan sources line true is says = said_of_names (limit_of plan.view) (grown_names plan.view (wanted_lists plan sources)) (sym (says ∙ ap is_said is))
+tells_growth plan sources line false is says = λ samples. unsaid_names (limit_of plan.view) (grown_names plan.view (wanted_lists plan sources)) (no_limit plan.view (wanted_lists plan sources)) (sym (says ∙ ap is_said is))

@@ -27,13 +27,10 @@ use Rattle.source_lists.specs.FromNames.{rest_from}
 use Rattle.source_lists.specs.OmittedNames.{rest_without, shown_rests}
 use Rattle.source_lists.specs.Sources.{all_found, asked_rest, asked_rests, known_inputs, read_bytes}
 use Rattle.opened_sources.specs.Opening.{AreLoaded, IsLoaded, IsLoadedInput}
-use Rattle.sent_views.specs.declared.run_facts.RunFacts.{RunFacts}
-use Rattle.flame_tool.specs.KnownFacts.{bytes_at, bytes_in, bytes_of, facts_of, known_facts}
-use Rattle.flame_tool.specs.Requests.{rest_of, rest_at, rest_in, rests_at, known_rests}
+use Rattle.flame_tool.specs.KnownFacts.{bytes_at, bytes_in, bytes_of, facts_of, known_sources, wanted_rests}
 use Rattle.sent_views.specs.Pages.{shown_text}
-use Rattle.flame_tool.specs.Runs.{IsClean, IsFault, lists_of, IsTextOf, Shows, HasFault}
-use Rattle.flame_tool.specs.StrictRuns.{has_strict_fault, known_sources}
-use Rattle.flame_tool.specs.checked.Wanted.{wanted_rests}
+use Rattle.flame_tool.specs.Runs.{IsClean, IsFault, lists_of, wanted_lists, IsTextOf, Shows, HasFault}
+use Rattle.flame_tool.specs.StrictRuns.{has_strict_fault}
 use Rattle.flame_tool.specs.checked.Failures.{Fails, FailsToShow, TellsGrowth}
 use Rattle.flame_tool.proofs.StrictSources.{clean_sources}
 use Rattle.flame_tool.proofs.GrownFunctions.{is_said, tells_growth}
@@ -73,27 +70,6 @@ loaded_known : (asked : Option Format) (input : Option (List ℕ)) (files : List
 loaded_known asked input files [] sources loaded = known_input asked input sources loaded
 loaded_known asked input files (path ∷ paths) sources loaded = known_files asked files (path ∷ paths) sources loaded
 
--- what bytes stand for is known where they are
-rests_first : (options : Options) (format : Format) (known : Option (List ℕ)) (rests : Option (List Rest)) (found : Option (List (Format × List ℕ))) → rests ≡ option_map (asked_rests options) found
-    → option_and_then (λ rest. option_map (λ more. rest ∷ more) rests) (rest_of options format known)
-    ≡ option_map (asked_rests options) (option_and_then (λ one. option_map (λ more. one ∷ more) found) (option_map (λ bytes. (format, bytes)) known))
-rests_first options format None rests found same = refl
-rests_first options format (Some bytes) rests None same = ap (option_map (λ more. asked_rest options format bytes ∷ more)) same
-rests_first options format (Some bytes) rests (Some all) same = ap (option_map (λ more. asked_rest options format bytes ∷ more)) same
-
-rests_of_files : (options : Options) (asked : Option Format) (files : List ℕ → Option (List ℕ)) (paths : List (List ℕ)) → all_found (rest_at options asked files) paths ≡ option_map (asked_rests options) (all_found (bytes_at asked files) paths)
-rests_of_files options asked files [] = refl
-rests_of_files options asked files (path ∷ paths) =
-    rests_first options (unwrap_or asked (format_at path)) (files path) (all_found (rest_at options asked files) paths) (all_found (bytes_at asked files) paths) (rests_of_files options asked files paths)
-
-rests_of_input : (options : Options) (asked : Option Format) (input : Option (List ℕ)) → option_map (λ rest. rest ∷ []) (rest_in options asked input) ≡ option_map (asked_rests options) (option_map (λ source. source ∷ []) (bytes_in asked input))
-rests_of_input options asked None = refl
-rests_of_input options asked (Some bytes) = refl
-
-rests_by_bytes : (options : Options) (asked : Option Format) (paths : List (List ℕ)) (input : Option (List ℕ)) (files : List ℕ → Option (List ℕ)) → rests_at options asked paths input files ≡ option_map (asked_rests options) (bytes_of asked paths input files)
-rests_by_bytes options asked [] input files = rests_of_input options asked input
-rests_by_bytes options asked (path ∷ paths) input files = rests_of_files options asked files (path ∷ paths)
-
 -- what holds of the sources that were loaded holds of those that are known
 module _ (plan : Plan) (input : Option (List ℕ)) (files : List ℕ → Option (List ℕ)) (sources : List (Format × Option (List ℕ))) (loaded : AreLoaded plan.format input files plan.files sources) where
   pub bytes_known : (P : List (Format × List ℕ) → Type 0) → IfSome (known_inputs sources) P → IfSome (known_sources plan input files) P
@@ -102,16 +78,6 @@ module _ (plan : Plan) (input : Option (List ℕ)) (files : List ℕ → Option 
         | None ↦ λ _. tt
         | Some all ↦ λ same. subst (λ known. IfSome known P) same holds
       ] (loaded_known plan.format input files plan.files sources loaded)
-
-  -- the same of what they stand for
-  pub shown_known : (P : Option RunFacts → List Rest → Type 0) → IfSome (known_inputs sources) (λ all. P (Some (facts_of plan.options all)) (wanted_rests plan all)) → IfSome (known_rests plan input files) (P (known_facts plan input files))
-  shown_known P holds =
-      subst (λ rests. IfSome (option_map (shown_rests plan.from plan.omit) rests) (P (known_facts plan input files))) (sym (rests_by_bytes plan.options plan.format plan.files input files))
-      (elim (known_sources plan input files) as (λ known. IfSome known (λ all. P (Some (facts_of plan.options all)) (wanted_rests plan all))
-      → IfSome (option_map (shown_rests plan.from plan.omit) (option_map (asked_rests plan.options) known)) (P (option_map (facts_of plan.options) known))) [
-        | None ↦ λ _. tt
-        | Some all ↦ λ holds. holds
-      ] (bytes_known (λ all. P (Some (facts_of plan.options all)) (wanted_rests plan all)) holds))
 
 -- what a clause says of what is known
 pub at_known : {A : Type 0} {known : Option A} (P : A → Type 0) (x : A) → known ≡ Some x → IfSome known P → P x
@@ -131,20 +97,6 @@ pub err_if_known : {T E A : Type 0} (result : Result T E) (known : Option A) (P 
 err_if_known (Ok done) known P says = tt
 err_if_known (Err error) None P says = tt
 err_if_known (Err error) (Some x) P says = says x refl
-
--- something is found
-abbrev pub IsKnown : {A : Type 0} → Option A → Type 0
-IsKnown None = ⊥
-IsKnown (Some x) = Unit {0}
-
--- where the samples are known, so are the facts
-pub facts_are_known : (plan : Plan) (input : Option (List ℕ)) (files : List ℕ → Option (List ℕ)) → IfSome (known_rests plan input files) (λ _. IsKnown (known_facts plan input files))
-facts_are_known plan input files =
-    subst (λ rests. IfSome (option_map (shown_rests plan.from plan.omit) rests) (λ _. IsKnown (known_facts plan input files))) (sym (rests_by_bytes plan.options plan.format plan.files input files))
-    (elim (known_sources plan input files) as (λ known. IfSome (option_map (shown_rests plan.from plan.omit) (option_map (asked_rests plan.options) known)) (λ _. IsKnown (option_map (facts_of plan.options) known))) [
-      | None ↦ tt
-      | Some all ↦ tt
-    ])
 
 -- ---- what no gate stopped is clean or has a fault
 
@@ -218,51 +170,45 @@ pub record AreCollected (plan : Plan) (sources : List (Format × List ℕ)) (lis
   pub ordered : IsInterleaving order (samples_of lists)
 
 module _ (plan : Plan) (sources : List (Format × List ℕ)) (lists : List ListState) (order : List ℕ) (collected : AreCollected plan sources lists order) where
-  abbrev facts : RunFacts
-  facts = facts_of plan.options sources
-
-  abbrev wanted : List Rest
-  wanted = wanted_rests plan sources
-
   abbrev text : List ℕ
-  text = shown_text plan facts (samples_of lists) order plan.options.every
+  text = shown_text plan (facts_of plan.options sources) (samples_of lists) order plan.options.every
 
-  same_samples : samples_of lists ≡ lists_of wanted
+  same_samples : samples_of lists ≡ wanted_lists plan sources
   same_samples = samples_of_rests lists ∙ ap lists_of collected.whole
 
-  same_faults : has_fault lists ≡ list_any (λ (rest : Rest). ends_in_fault rest.ending) wanted
+  same_faults : has_fault lists ≡ list_any (λ (rest : Rest). ends_in_fault rest.ending) (wanted_rests plan sources)
   same_faults = faults_of_rests lists ∙ ap (λ rests. list_any (λ (rest : Rest). ends_in_fault rest.ending) rests) collected.whole
 
-  is_text : has_fault lists ≡ false → IsTextOf plan facts wanted text
+  is_text : has_fault lists ≡ false → IsTextOf plan sources text
   is_text faultless = record {
     clean =
         clean_shown plan.from plan.omit (asked_rests plan.options sources)
         (clean_rests plan.options sources (sym (faults_shown plan.from plan.omit (asked_rests plan.options sources)) ∙ (sym same_faults ∙ faultless)));
     order = order;
     ordered = subst (λ (samples : List (List Sample)). IsInterleaving order samples) same_samples collected.ordered;
-    text_is = ap (λ samples. shown_text plan facts samples order plan.options.every) same_samples;
+    text_is = ap (λ samples. shown_text plan (facts_of plan.options sources) samples order plan.options.every) same_samples;
   }
 
   -- by a text that is said in other words
   pub ok_shown : {T E : Type 0} (result : Result T E) (old new : Option (List ℕ)) (other : List ℕ) → other ≡ text → OnOk result (has_fault lists ≡ false) → OnOk result (Appends old new other)
-      → OnOk result (Shows plan (Some facts) old new wanted)
+      → OnOk result (Shows plan old new sources)
   ok_shown (Ok done) old new other same faultless appends = λ _. (text, is_text faultless, subst (Appends old new) same appends)
   ok_shown (Err error) old new other same faultless appends = tt
 
   -- whether functions grew, by the line that names them
-  pub growth_shown : (result : Result Bool Failure) → IfOk result (λ is_over. is_over ≡ is_said (growth_line plan.view (samples_of lists))) → IfOk result (λ is_over. TellsGrowth is_over plan wanted)
-  growth_shown (Ok is_over) says = tells_growth plan wanted (growth_line plan.view (samples_of lists)) is_over (ap (growth_line plan.view) same_samples) says
+  pub growth_shown : (result : Result Bool Failure) → IfOk result (λ is_over. is_over ≡ is_said (growth_line plan.view (samples_of lists))) → IfOk result (λ is_over. TellsGrowth is_over plan sources)
+  growth_shown (Ok is_over) says = tells_growth plan sources (growth_line plan.view (samples_of lists)) is_over (ap (growth_line plan.view) same_samples) says
   growth_shown (Err failure) says = tt
 
-  not_shown : (old new : Option (List ℕ)) (failure : Failure) → FailsToShow lists text old new failure → Fails plan (Some facts) old new failure wanted
+  not_shown : (old new : Option (List ℕ)) (failure : Failure) → FailsToShow lists text old new failure → Fails plan old new failure sources
   not_shown old new TooManyFiles fails = tt
   not_shown old new (Unreadable source) fails = tt
   not_shown old new (TooLarge source) fails = tt
   not_shown old new OutOfMemory fails = tt
   not_shown old new NoThread fails = tt
   not_shown old new (Unfinished source) fails = tt
-  not_shown old new Faults fails = λ plain. faulty_rests wanted (sym same_faults ∙ fails.0)
+  not_shown old new Faults fails = λ plain. faulty_rests (wanted_rests plan sources) (sym same_faults ∙ fails.0)
   not_shown old new (Output fault) fails = λ _. (text, is_text fails.0, fails.1)
 
-  pub err_shown : (old new : Option (List ℕ)) (other : List ℕ) → other ≡ text → (failure : Failure) → FailsToShow lists other old new failure → Fails plan (Some facts) old new failure wanted
+  pub err_shown : (old new : Option (List ℕ)) (other : List ℕ) → other ≡ text → (failure : Failure) → FailsToShow lists other old new failure → Fails plan old new failure sources
   err_shown old new other same failure fails = not_shown old new failure (subst (λ said. FailsToShow lists said old new failure) same fails)

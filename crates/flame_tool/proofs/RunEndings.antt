@@ -24,15 +24,13 @@ use Rattle.sum_texts.specs.Told.{Told}
 use Rattle.sent_views.specs.declared.run_facts.RunFacts.{RunFacts}
 use Rattle.source_lists.specs.OmittedNames.{rest_without, shown_rests}
 use Rattle.source_lists.proofs.CutLemmas.{shown_whole}
-use Rattle.flame_tool.specs.KnownFacts.{known_facts}
-use Rattle.flame_tool.proofs.KnownSources.{IsKnown}
+use Rattle.flame_tool.specs.KnownFacts.{facts_of, known_sources}
+use Rattle.run_options.specs.declared.formats.Format.{Format}
 use Rattle.flame_tool.specs.checked.Telling.{form_tells, view_tells}
-use Rattle.flame_tool.specs.Requests.{asked_faults, asked_plan, known_rests}
-use Rattle.command_line.specs.declared.plans.PageForm.{PageForm}
-use Rattle.sent_views.specs.Pages.{asked_heading, called_text, page_text, peeked_text, picture_text, shown_text, text_in, told_in}
-use Rattle.sent_views.proofs.PageLemmas.{orderless_page}
+use Rattle.flame_tool.specs.Requests.{asked_faults, asked_plan}
+use Rattle.sent_views.specs.Pages.{called_text, page_text, peeked_text, picture_text, shown_text, text_in, told_in}
 use Rattle.source_views.specs.Texts.{IsOrderless, told_text, view_text}
-use Rattle.flame_tool.specs.Runs.{lists_of, text_of, GainsFront, IsClean, IsFault, Shows, ShowsFront, ShowsSamples, IsOfSamples}
+use Rattle.flame_tool.specs.Runs.{lists_of, wanted_lists, text_of, GainsFront, IsClean, IsFault, Shows, ShowsFront, ShowsSamples, IsOfSamples}
 use Rattle.flame_tool.specs.StrictRuns.{HasPlainFault}
 use Rattle.flame_tool.specs.checked.Failures.{Fails, KeepsOutput}
 use Rattle.opened_sources.specs.Failures.{status_of}
@@ -41,8 +39,8 @@ use Rattle.opened_sources.specs.declared.failures.Failure.TheVariants.{TooManyFi
 
 -- ---- a failed run of a plan
 
-module _ (plan : Plan) (told : Option RunFacts) (known : Option (List Rest)) (old new : Option (List ℕ)) where
-  pub failed_faulty : (failure : Failure) → status_of failure ≡ 1 → IfSome known (Fails plan told old new failure) → IfSome known (HasPlainFault plan)
+module _ (plan : Plan) (known : Option (List (Format × List ℕ))) (old new : Option (List ℕ)) where
+  pub failed_faulty : (failure : Failure) → status_of failure ≡ 1 → IfSome known (Fails plan old new failure) → IfSome known (HasPlainFault plan)
   failed_faulty TooManyFiles one fails = absurd (omega arith)
   failed_faulty (Unreadable source) one fails = absurd (omega arith)
   failed_faulty (TooLarge source) one fails = absurd (omega arith)
@@ -52,8 +50,8 @@ module _ (plan : Plan) (told : Option RunFacts) (known : Option (List Rest)) (ol
   failed_faulty Faults one fails = fails
   failed_faulty (Output fault) one fails = absurd (omega arith)
 
-  pub failed_front : (failure : Failure) → status_of failure ≡ 3 → KeepsOutput old new failure → IfSome known (Fails plan told old new failure)
-      → Keeps old new ⊎ IfSome known (ShowsFront plan told old new)
+  pub failed_front : (failure : Failure) → status_of failure ≡ 3 → KeepsOutput old new failure → IfSome known (Fails plan old new failure)
+      → Keeps old new ⊎ IfSome known (ShowsFront plan old new)
   failed_front TooManyFiles three kept fails = inl kept
   failed_front (Unreadable source) three kept fails = inl kept
   failed_front (TooLarge source) three kept fails = inl kept
@@ -66,7 +64,7 @@ module _ (plan : Plan) (told : Option RunFacts) (known : Option (List Rest)) (ol
 -- ---- a text without snapshots
 
 module _ (told : Told) (lists : List (List Sample)) (order : List ℕ) (every : Option ℕ) where
-  orderless : (view : View) → IsOrderless view every → told_text told view lists order every ≡ told_text told view lists [] None
+  pub orderless : (view : View) → IsOrderless view every → told_text told view lists order every ≡ told_text told view lists [] None
   orderless Fold is = refl
   orderless (Graph width) is = ap (view_text (Graph width) lists order) is
   orderless (Chart width) is = refl
@@ -76,7 +74,7 @@ module _ (told : Told) (lists : List (List Sample)) (order : List ℕ) (every : 
   orderless (Diff table) is = refl
 
 -- a text that says nothing but what the samples are
-plainly : (told : Told) (lists : List (List Sample)) (view : View) → IsOfSamples view → told_text told view lists [] None ≡ view_text view lists [] None
+pub plainly : (told : Told) (lists : List (List Sample)) (view : View) → IsOfSamples view → told_text told view lists [] None ≡ view_text view lists [] None
 plainly told lists Fold tells = refl
 plainly told lists (Graph width) tells = refl
 plainly told lists (Chart width) tells = refl
@@ -85,51 +83,17 @@ plainly told lists (PairBoxes width) tells = refl
 plainly told lists (Top top) tells = absurd tells
 plainly told lists (Diff table) tells = absurd tells
 
--- what was shown, of facts that are known
-module _ (plan : Plan) (old new : Option (List ℕ)) where
-  of_shown : (written : Form) (facts : RunFacts) (rests : List Rest) (wanted : List ℕ) → plan.form ≡ written → ShowsSamples written
-      → ((order : List ℕ) → text_in written plan facts (lists_of rests) order plan.options.every ≡ wanted)
-      → Shows plan (Some facts) old new rests → Appends old new wanted
-  of_shown written facts rests wanted is samples same shows =
-      let shown = shows (subst ShowsSamples (sym is) samples) in
-      subst (Appends old new) (shown.1.text_is ∙ ap (λ (form : Form). text_in form plan facts (lists_of rests) shown.1.order plan.options.every) is ∙ same shown.1.order) shown.2
-
-  pub with_facts : (told : Option RunFacts) (known : Option (List Rest)) → IfSome known (Shows plan told old new)
-      → plan.form ≡ form.Text → IsOrderless plan.view plan.options.every
-      → IfSome told (λ facts. IfSome known (λ rests. Appends old new (told_text (told_in plan facts (lists_of rests)) plan.view (lists_of rests) [] None)))
-  with_facts None known shows as_text is = tt
-  with_facts (Some facts) None shows as_text is = tt
-  with_facts (Some facts) (Some rests) shows as_text is =
-      let told = told_in plan facts (lists_of rests) in
-      of_shown form.Text facts rests (told_text told plan.view (lists_of rests) [] None) as_text tt
-      (λ order. orderless told (lists_of rests) order plan.options.every plan.view is) shows
-
-  pub exactly : (told : Option RunFacts) (known : Option (List Rest)) → IfSome known (λ _. IsKnown told) → IfSome known (Shows plan told old new)
-      → plan.form ≡ form.Text → IsOrderless plan.view plan.options.every → IsOfSamples plan.view
-      → IfSome known (λ rests. Appends old new (view_text plan.view (lists_of rests) [] None))
-  exactly told None some shows as_text is tells = tt
-  exactly None (Some rests) some shows as_text is tells = absurd some
-  exactly (Some facts) (Some rests) some shows as_text is tells =
-      subst (Appends old new) (plainly (told_in plan facts (lists_of rests)) (lists_of rests) plan.view tells) (with_facts (Some facts) (Some rests) shows as_text is)
-
-  pub page_exactly : (told : Option RunFacts) (known : Option (List Rest)) → IfSome known (Shows plan told old new)
-      → (page : PageForm) → plan.form ≡ form.Page page → IsOrderless plan.view plan.options.every
-      → IfSome told (λ facts. IfSome known (λ rests. Appends old new (page_text plan facts page (lists_of rests) [] None)))
-  page_exactly None known shows page as_page orderless = tt
-  page_exactly (Some facts) None shows page as_page orderless = tt
-  page_exactly (Some facts) (Some rests) shows page as_page orderless =
-      of_shown (form.Page page) facts rests (page_text plan facts page (lists_of rests) [] None) as_page tt
-      (λ order. sym (orderless_page (asked_heading plan facts page (lists_of rests)) plan.view (lists_of rests) order plan.options.every orderless)) shows
-
-  -- a form whose text has no order of the samples
-  pub form_exactly : (written : Form) (text : RunFacts → List (List Sample) → List ℕ) → ShowsSamples written
-      → ((facts : RunFacts) (lists : List (List Sample)) (order : List ℕ) → text_in written plan facts lists order plan.options.every ≡ text facts lists)
-      → (told : Option RunFacts) (known : Option (List Rest)) → IfSome known (Shows plan told old new) → plan.form ≡ written
-      → IfSome told (λ facts. IfSome known (λ rests. Appends old new (text facts (lists_of rests))))
-  form_exactly written text samples told_as None known shows is = tt
-  form_exactly written text samples told_as (Some facts) None shows is = tt
-  form_exactly written text samples told_as (Some facts) (Some rests) shows is =
-      of_shown written facts rests (text facts (lists_of rests)) is samples (told_as facts (lists_of rests)) shows
+-- what was shown in a form whose text has no order of the samples
+pub form_exactly : (plan : Plan) (old new : Option (List ℕ)) (written : Form) (text : RunFacts → List (List Sample) → List ℕ) → ShowsSamples written
+    → ((facts : RunFacts) (lists : List (List Sample)) (order : List ℕ) → text_in written plan facts lists order plan.options.every ≡ text facts lists)
+    → (known : Option (List (Format × List ℕ))) → IfSome known (Shows plan old new) → plan.form ≡ written
+    → IfSome known (λ sources. Appends old new (text (facts_of plan.options sources) (wanted_lists plan sources)))
+form_exactly plan old new written text samples told_as None shows is = tt
+form_exactly plan old new written text samples told_as (Some sources) shows is =
+    let facts = facts_of plan.options sources in
+    let lists = wanted_lists plan sources in
+    let shown = shows (subst ShowsSamples (sym is) samples) in
+    subst (Appends old new) (shown.1.text_is ∙ ap (λ (form : Form). text_in form plan facts lists shown.1.order plan.options.every) is ∙ told_as facts lists shown.1.order) shown.2
 
 -- what tells no types is the same whatever they are
 pub same_shown : (plan : Plan) (one other : RunFacts) (lists : List (List Sample)) (order : List ℕ) (every : Option ℕ) → one.whole ≡ other.whole
@@ -168,19 +132,19 @@ whole_input bytes =
     ∙ ap fold_text (append-nil (read_folded bytes).samples))
 
 module _ (input : Option (List ℕ)) (files : List ℕ → Option (List ℕ)) (old new : Option (List ℕ)) where
-  pub input_text : (plan : Plan) → plan ≡ default_plan → IfSome (known_rests plan input files) (Shows plan (known_facts plan input files) old new) → IfSome input (λ bytes. Appends old new (text_of bytes))
-  input_text plan is shows = go input (subst (λ (p : Plan). IfSome (known_rests p input files) (Shows p (known_facts p input files) old new)) is shows)
+  pub input_text : (plan : Plan) → plan ≡ default_plan → IfSome (known_sources plan input files) (Shows plan old new) → IfSome input (λ bytes. Appends old new (text_of bytes))
+  input_text plan is shows = go input (subst (λ (p : Plan). IfSome (known_sources p input files) (Shows p old new)) is shows)
     where
-      go : (known : Option (List ℕ)) → IfSome (known_rests default_plan known files) (Shows default_plan (known_facts default_plan known files) old new) → IfSome known (λ bytes. Appends old new (text_of bytes))
+      go : (known : Option (List ℕ)) → IfSome (known_sources default_plan known files) (Shows default_plan old new) → IfSome known (λ bytes. Appends old new (text_of bytes))
       go None shows = tt
       go (Some bytes) shows =
           let shown = shows tt in
           subst (Appends old new) (shown.1.text_is ∙ whole_input bytes) shown.2
 
-  pub input_clean : (plan : Plan) → plan ≡ default_plan → IfSome (known_rests plan input files) (Shows plan (known_facts plan input files) old new) → IfSome input (λ bytes. IsClean (read_folded bytes).ending)
-  input_clean plan is shows = go input (subst (λ (p : Plan). IfSome (known_rests p input files) (Shows p (known_facts p input files) old new)) is shows)
+  pub input_clean : (plan : Plan) → plan ≡ default_plan → IfSome (known_sources plan input files) (Shows plan old new) → IfSome input (λ bytes. IsClean (read_folded bytes).ending)
+  input_clean plan is shows = go input (subst (λ (p : Plan). IfSome (known_sources p input files) (Shows p old new)) is shows)
     where
-      go : (known : Option (List ℕ)) → IfSome (known_rests default_plan known files) (Shows default_plan (known_facts default_plan known files) old new) → IfSome known (λ bytes. IsClean (read_folded bytes).ending)
+      go : (known : Option (List ℕ)) → IfSome (known_sources default_plan known files) (Shows default_plan old new) → IfSome known (λ bytes. IsClean (read_folded bytes).ending)
       go None shows = tt
       go (Some bytes) shows =
           let shown = shows tt in
@@ -191,10 +155,10 @@ module _ (input : Option (List ℕ)) (files : List ℕ → Option (List ℕ)) (o
   of_one rest found zero within is faulty = subst (λ (rest : Rest). IsFault rest.ending) (sym is) faulty
   of_one rest found (suc at) within is faulty = absurd (omega arith)
 
-  pub input_fault : (plan : Plan) → plan ≡ default_plan → IfSome (known_rests plan input files) (HasPlainFault plan) → IfSome input (λ bytes. IsFault (read_folded bytes).ending)
-  input_fault plan is faulty = go input (subst (λ (p : Plan). IfSome (known_rests p input files) (HasPlainFault p)) is faulty)
+  pub input_fault : (plan : Plan) → plan ≡ default_plan → IfSome (known_sources plan input files) (HasPlainFault plan) → IfSome input (λ bytes. IsFault (read_folded bytes).ending)
+  input_fault plan is faulty = go input (subst (λ (p : Plan). IfSome (known_sources p input files) (HasPlainFault p)) is faulty)
     where
-      go : (known : Option (List ℕ)) → IfSome (known_rests default_plan known files) (HasPlainFault default_plan) → IfSome known (λ bytes. IsFault (read_folded bytes).ending)
+      go : (known : Option (List ℕ)) → IfSome (known_sources default_plan known files) (HasPlainFault default_plan) → IfSome known (λ bytes. IsFault (read_folded bytes).ending)
       go None faulty = tt
       go (Some bytes) faulty =
           let found = faulty refl in
@@ -205,16 +169,16 @@ module _ (input : Option (List ℕ)) (files : List ℕ → Option (List ℕ)) (o
   unchanged (Some xs) None kept = kept
   unchanged (Some xs) (Some ys) kept = kept ∙ sym (append-nil xs)
 
-  pub input_front : (plan : Plan) → plan ≡ default_plan → Keeps old new ⊎ IfSome (known_rests plan input files) (ShowsFront plan (known_facts plan input files) old new)
+  pub input_front : (plan : Plan) → plan ≡ default_plan → Keeps old new ⊎ IfSome (known_sources plan input files) (ShowsFront plan old new)
       → IfSome input (λ bytes. GainsFront bytes old new)
   input_front plan is (inl kept) = go input
     where
       go : (known : Option (List ℕ)) → IfSome known (λ bytes. GainsFront bytes old new)
       go None = tt
       go (Some bytes) = (0, unchanged old new kept)
-  input_front plan is (inr shows) = go input (subst (λ (p : Plan). IfSome (known_rests p input files) (ShowsFront p (known_facts p input files) old new)) is shows)
+  input_front plan is (inr shows) = go input (subst (λ (p : Plan). IfSome (known_sources p input files) (ShowsFront p old new)) is shows)
     where
-      go : (known : Option (List ℕ)) → IfSome (known_rests default_plan known files) (ShowsFront default_plan (known_facts default_plan known files) old new) → IfSome known (λ bytes. GainsFront bytes old new)
+      go : (known : Option (List ℕ)) → IfSome (known_sources default_plan known files) (ShowsFront default_plan old new) → IfSome known (λ bytes. GainsFront bytes old new)
       go None shows = tt
       go (Some bytes) shows =
           let shown = shows tt in

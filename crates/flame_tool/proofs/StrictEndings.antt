@@ -3,7 +3,7 @@ use Rattle.std.proofs.Common.{◌≡◌, ℕ, List, Option, Some, None, Result, 
 use Rattle.std.proofs.lemmas.Bool.{true≢false, false≢true}
 use Rattle.std.specs.Prelude.{Bool}
 use Rattle.stack_core.specs.Ledgers.{ListState}
-use Rattle.stack_core.specs.Reading.{Rest}
+use Rattle.run_options.specs.declared.formats.Format.{Format}
 use Rattle.command_line.specs.declared.plans.Plan.{Plan}
 use Rattle.opened_sources.specs.Failures.{Flushes, IsOpening, has_fault, status_of}
 use Rattle.opened_sources.specs.declared.failures.Failure.{Failure}
@@ -38,8 +38,8 @@ unsent lists text old new faulty none clean Faults fails = absurd (false≢true 
 unsent lists text old new faulty none clean (Output fault) fails = none
 
 -- it is asked strictly, so that no plain fault is told
-pub told_strictly : (plan : Plan) (rests : List Rest) → plan.is_strict ≡ true → HasPlainFault plan rests
-told_strictly plan rests strict = λ plain. absurd (true≢false (sym strict ∙ plain))
+pub told_strictly : (plan : Plan) (sources : List (Format × List ℕ)) → plan.is_strict ≡ true → HasPlainFault plan sources
+told_strictly plan sources strict = λ plain. absurd (true≢false (sym strict ∙ plain))
 
 strict_failed : (faulty : Bool) (failure : Failure) → status_of failure ≡ 1 → FailsStrictly faulty failure → faulty ≡ true
 strict_failed faulty TooManyFiles one fails = absurd (omega arith)

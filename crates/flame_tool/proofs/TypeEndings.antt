@@ -16,13 +16,12 @@ use Rattle.profile_tables.specs.Samples.{read_pprof, read_samples, tables_of}
 use Rattle.profile_tables.specs.Samples as pprof
 use Rattle.source_lists.specs.FromNames.{rest_from}
 use Rattle.source_lists.specs.OmittedNames.{rest_without, shown_rests}
-use Rattle.source_lists.specs.Sources.{asked_rest}
+use Rattle.source_lists.specs.Sources.{asked_rest, asked_rests}
 use Rattle.command_line.specs.Plans.{IsOfOneProfile}
 use Rattle.command_line.specs.declared.plans.Form.TheVariants as form
 use Rattle.command_line.specs.declared.plans.Plan.{Plan}
 use Rattle.view_texts.specs.Types.{types_text}
-use Rattle.sent_views.specs.declared.run_facts.RunFacts.{RunFacts}
-use Rattle.flame_tool.specs.Requests.{known_rests, rest_of, rests_at}
+use Rattle.flame_tool.specs.KnownFacts.{bytes_of, known_sources}
 use Rattle.flame_tool.specs.Runs.{HasFault, IsFault, Shows, ShowsFront, ShowsSamples}
 use Rattle.flame_tool.specs.StrictRuns.{HasPlainFault}
 use Rattle.flame_tool.specs.TypeRuns.{HasTableFault, ShowsTypes, ShowsTypesFront, known_profile, table_fault}
@@ -40,12 +39,12 @@ fault_ends options profile preferred (fault, is) =
     (subst (λ found. IsFault (pprof.rest_of found (read_samples (tables_of profile Preferred options.naming) 0 (samples_of profile))).ending) (sym is) tt)
 
 fault_of_one : (options : Options) (known : Option (List ℕ)) → options.pick ≡ Preferred → IfSome known HasTableFault
-    → IfSome (option_and_then (λ found. option_map (λ more. found ∷ more) (Some [])) (rest_of options Pprof known)) HasFault
+    → IfSome (option_and_then (λ found. option_map (λ more. found ∷ more) (Some [])) (option_map (λ bytes. (Pprof, bytes)) known)) (λ sources. HasFault (asked_rests options sources))
 fault_of_one options None preferred faulty = tt
 fault_of_one options (Some profile) preferred faulty = (0, asked_rest options Pprof profile, omega arith, refl, fault_ends options profile preferred faulty)
 
 fault_of_paths : (options : Options) (input : Option (List ℕ)) (files : List ℕ → Option (List ℕ)) (paths : List (List ℕ)) → length paths ≡ 1 → options.pick ≡ Preferred
-    → IfSome (option_and_then files (slice_get paths 0)) HasTableFault → IfSome (rests_at options (Some Pprof) paths input files) HasFault
+    → IfSome (option_and_then files (slice_get paths 0)) HasTableFault → IfSome (bytes_of (Some Pprof) paths input files) (λ sources. HasFault (asked_rests options sources))
 fault_of_paths options input files [] one preferred faulty = absurd (omega arith)
 fault_of_paths options input files (path ∷ []) one preferred faulty = fault_of_one options (files path) preferred faulty
 fault_of_paths options input files (path ∷ another ∷ more) one preferred faulty = absurd (omega arith)
@@ -60,60 +59,56 @@ fault_in_shown None omitted rests faulty = fault_mapped (rest_without omitted) (
 fault_in_shown (Some name) omitted rests faulty =
     fault_mapped (rest_without omitted) (λ _ fault. fault) (map (rest_from name) rests) (fault_mapped (rest_from name) (λ _ fault. fault) rests faulty)
 
-fault_shown : (from : Option (List ℕ)) (omitted : List (List ℕ)) (known : Option (List Rest)) → IfSome known HasFault → IfSome (option_map (shown_rests from omitted) known) HasFault
-fault_shown from omitted None faulty = tt
-fault_shown from omitted (Some rests) faulty = fault_in_shown from omitted rests faulty
+fault_shown : (plan : Plan) (known : Option (List (Format × List ℕ))) → IfSome known (λ sources. HasFault (asked_rests plan.options sources)) → IfSome known (HasPlainFault plan)
+fault_shown plan None faulty = tt
+fault_shown plan (Some sources) faulty = λ _. fault_in_shown plan.from plan.omit (asked_rests plan.options sources) faulty
 
 -- ---- a plan that asks for no samples
 
-module _ (plan : Plan) (told : Option RunFacts) (old new : Option (List ℕ)) (types : plan.form ≡ form.Types) where
-  unseen : (known : Option (List Rest)) → IfSome known (Shows plan told old new)
+module _ (plan : Plan) (old new : Option (List ℕ)) (types : plan.form ≡ form.Types) where
+  unseen : (known : Option (List (Format × List ℕ))) → IfSome known (Shows plan old new)
   unseen None = tt
-  unseen (Some rests) = λ shows. absurd (subst ShowsSamples types shows)
+  unseen (Some sources) = λ shows. absurd (subst ShowsSamples types shows)
 
-  unseen_front : (known : Option (List Rest)) → IfSome known (ShowsFront plan told old new)
+  unseen_front : (known : Option (List (Format × List ℕ))) → IfSome known (ShowsFront plan old new)
   unseen_front None = tt
-  unseen_front (Some rests) = λ shows. absurd (subst ShowsSamples types shows)
+  unseen_front (Some sources) = λ shows. absurd (subst ShowsSamples types shows)
 
-  pub unseen_ok : {T E : Type 0} (known : Option (List Rest)) (result : Result T E) → OnOk result (IfSome known (Shows plan told old new))
+  pub unseen_ok : {T E : Type 0} (known : Option (List (Format × List ℕ))) (result : Result T E) → OnOk result (IfSome known (Shows plan old new))
   unseen_ok known (Ok done) = unseen known
   unseen_ok known (Err error) = tt
 
-  unsaid : (known : Option (List Rest)) → IfSome known (λ _. Unit {0})
+  unsaid : (known : Option (List (Format × List ℕ))) → IfSome known (λ _. Unit {0})
   unsaid None = tt
-  unsaid (Some rests) = tt
-
-  plainly : (known : Option (List Rest)) → IfSome known HasFault → IfSome known (HasPlainFault plan)
-  plainly None faulty = tt
-  plainly (Some rests) faulty = λ plain. faulty
+  unsaid (Some sources) = tt
 
   unseen_fails : (input : Option (List ℕ)) (files : List ℕ → Option (List ℕ)) (failure : Failure) → IsOfOneProfile plan
-      → IfSome (known_profile plan files) (FailsTypes old new failure) → IfSome (known_rests plan input files) (Fails plan told old new failure)
-  unseen_fails input files TooManyFiles one fails = unsaid (known_rests plan input files)
-  unseen_fails input files (Unreadable source) one fails = unsaid (known_rests plan input files)
-  unseen_fails input files (TooLarge source) one fails = unsaid (known_rests plan input files)
-  unseen_fails input files OutOfMemory one fails = unsaid (known_rests plan input files)
-  unseen_fails input files NoThread one fails = unsaid (known_rests plan input files)
-  unseen_fails input files (Unfinished source) one fails = unsaid (known_rests plan input files)
+      → IfSome (known_profile plan files) (FailsTypes old new failure) → IfSome (known_sources plan input files) (Fails plan old new failure)
+  unseen_fails input files TooManyFiles one fails = unsaid (known_sources plan input files)
+  unseen_fails input files (Unreadable source) one fails = unsaid (known_sources plan input files)
+  unseen_fails input files (TooLarge source) one fails = unsaid (known_sources plan input files)
+  unseen_fails input files OutOfMemory one fails = unsaid (known_sources plan input files)
+  unseen_fails input files NoThread one fails = unsaid (known_sources plan input files)
+  unseen_fails input files (Unfinished source) one fails = unsaid (known_sources plan input files)
   unseen_fails input files Faults one fails =
-      plainly (known_rests plan input files) (fault_shown plan.from plan.omit (rests_at plan.options plan.format plan.files input files)
-      (subst (λ (asked : Option Format). IfSome (rests_at plan.options asked plan.files input files) HasFault) (sym one.1)
-      (fault_of_paths plan.options input files plan.files one.0 (ap (λ (options : Options). options.pick) one.2) fails)))
-  unseen_fails input files (Output fault) one fails = unseen_front (known_rests plan input files)
+      fault_shown plan (known_sources plan input files)
+      (subst (λ (asked : Option Format). IfSome (bytes_of asked plan.files input files) (λ sources. HasFault (asked_rests plan.options sources))) (sym one.1)
+      (fault_of_paths plan.options input files plan.files one.0 (ap (λ (options : Options). options.pick) one.2) fails))
+  unseen_fails input files (Output fault) one fails = unseen_front (known_sources plan input files)
 
   pub unseen_err : {T : Type 0} (input : Option (List ℕ)) (files : List ℕ → Option (List ℕ)) (result : Result T Failure) → IsOfOneProfile plan
       → IfErr result (λ failure. IfSome (known_profile plan files) (FailsTypes old new failure))
-      → IfErr result (λ failure. IfSome (known_rests plan input files) (Fails plan told old new failure))
+      → IfErr result (λ failure. IfSome (known_sources plan input files) (Fails plan old new failure))
   unseen_err input files (Ok done) one fails = tt
   unseen_err input files (Err failure) one fails = unseen_fails input files failure one fails
 
 -- no function of it grew
-pub types_ungrown : (plan : Plan) (known : Option (List Rest)) (result : Result Bool Failure) → plan.form ≡ form.Types → IfOk result (λ is_over. is_over ≡ false)
+pub types_ungrown : (plan : Plan) (known : Option (List (Format × List ℕ))) (result : Result Bool Failure) → plan.form ≡ form.Types → IfOk result (λ is_over. is_over ≡ false)
     → IfOk result (λ is_over. IfSome known (TellsGrowth is_over plan))
 types_ungrown plan known (Err failure) types none = tt
 types_ungrown plan None (Ok is_over) types none = tt
-types_ungrown plan (Some rests) (Ok true) types none = absurd (true≢false none)
-types_ungrown plan (Some rests) (Ok false) types none = λ shows. absurd (subst ShowsSamples types shows)
+types_ungrown plan (Some sources) (Ok true) types none = absurd (true≢false none)
+types_ungrown plan (Some sources) (Ok false) types none = λ shows. absurd (subst ShowsSamples types shows)
 
 pub types_unlimited : (P : Type 0) (result : Result Bool Failure) → IfOk result (λ is_over. is_over ≡ false) → IfOk result (λ is_over. is_over ≡ true → P)
 types_unlimited P (Ok is_over) none = λ over. absurd (true≢false (sym over ∙ none))

@@ -10,10 +10,10 @@ use Rattle.stack_core.specs.Reading.{Rest}
 use Rattle.folded_lines.proofs.Computing.{computing}
 use Rattle.merged_stacks.specs.Merged.{merged, stacks_of, sum_at}
 use Rattle.sent_views.specs.Facts.{told_whole}
-use Rattle.flame_tool.specs.KnownFacts.{known_facts}
-use Rattle.flame_tool.specs.Requests.{asked_plan, known_rests}
-use Rattle.flame_tool.specs.Runs.{lists_of}
-use Rattle.flame_tool.specs.StrictRuns.{has_strict_fault, known_sources}
+use Rattle.flame_tool.specs.KnownFacts.{facts_of, known_sources, wanted_rests}
+use Rattle.flame_tool.specs.Requests.{asked_plan}
+use Rattle.flame_tool.specs.Runs.{wanted_lists}
+use Rattle.flame_tool.specs.StrictRuns.{has_strict_fault}
 use Rattle.source_views.specs.Texts.{view_text}
 
 -- three files, of which one is named as a profile and is none
@@ -24,17 +24,17 @@ two_files path =
     else (if bytes_eq path (codes "z.pb") then Some (codes "a 1\n") else None))
 
 abbrev rests_asked : List Text → Option (List ℕ) → Option (List Rest)
-rests_asked words input = option_and_then (λ plan. known_rests plan input two_files) (asked_plan words)
+rests_asked words input = option_and_then (λ plan. option_map (wanted_rests plan) (known_sources plan input two_files)) (asked_plan words)
 
 -- the text that words ask for, where no order is left in it
 abbrev text_asked : List Text → Option (List ℕ) → Option (List ℕ)
 text_asked words input =
-    option_and_then (λ plan. option_map (λ rests. view_text plan.view (lists_of rests) [] None) (known_rests plan input two_files)) (asked_plan words)
+    option_and_then (λ plan. option_map (λ sources. view_text plan.view (wanted_lists plan sources) [] None) (known_sources plan input two_files)) (asked_plan words)
 
 -- what the words let a text tell of the weight of all samples
 abbrev whole_asked : List Text → Option (List ℕ) → Option ℕ
 whole_asked words input =
-    option_and_then (λ plan. option_and_then (told_whole plan) (known_facts plan input two_files)) (asked_plan words)
+    option_and_then (λ plan. option_and_then (λ sources. told_whole plan (facts_of plan.options sources)) (known_sources plan input two_files)) (asked_plan words)
 
 -- it is that of all samples, whatever a filter keeps
 whole_of_the_focus : whole_asked (codes "top" ∷ codes "--focus" ∷ codes "b" ∷ codes "y" ∷ codes "x" ∷ []) None ≡ Some 7

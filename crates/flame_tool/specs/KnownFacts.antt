@@ -1,10 +1,12 @@
--- What is known of the sources of a run beside the samples that it shows.
+-- What is known of the sources of a run: their bytes, and what these stand for.
 use Rattle.std.specs.Prelude.{ℕ, List, [], ◌∷◌, Option, option_map, unwrap_or}
+use Rattle.stack_core.specs.Reading.{Rest}
 use Rattle.run_options.specs.Formats.{format_at}
 use Rattle.run_options.specs.declared.formats.Format.{Format}
 use Rattle.run_options.specs.declared.formats.Format.TheVariants.{Folded}
 use Rattle.run_options.specs.declared.options.Options.{Options}
-use Rattle.source_lists.specs.Sources.{all_found, whole_weight}
+use Rattle.source_lists.specs.OmittedNames.{shown_rests}
+use Rattle.source_lists.specs.Sources.{all_found, asked_rests, whole_weight}
 use Rattle.source_lists.specs.Types.{types_of}
 use Rattle.command_line.specs.declared.plans.Plan.{Plan}
 use Rattle.sent_views.specs.declared.run_facts.RunFacts.{RunFacts}
@@ -26,5 +28,10 @@ bytes_of asked (path ∷ paths) input files = all_found (bytes_at asked files) (
 abbrev pub facts_of : Options → List (Format × List ℕ) → RunFacts
 facts_of options sources = record { whole = whole_weight options sources; types = types_of options sources }
 
-abbrev pub known_facts : Plan → Option (List ℕ) → (List ℕ → Option (List ℕ)) → Option RunFacts
-known_facts plan input files = option_map (facts_of plan.options) (bytes_of plan.format plan.files input files)
+-- the sources of a plan, where their bytes are known
+abbrev pub known_sources : Plan → Option (List ℕ) → (List ℕ → Option (List ℕ)) → Option (List (Format × List ℕ))
+known_sources plan input files = bytes_of plan.format plan.files input files
+
+-- the samples of sources that a plan asks for, and the endings. It may say at which frame each stack begins, and which frames are left out
+abbrev pub wanted_rests : Plan → List (Format × List ℕ) → List Rest
+wanted_rests plan sources = shown_rests plan.from plan.omit (asked_rests plan.options sources)

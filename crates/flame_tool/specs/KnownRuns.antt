@@ -6,7 +6,6 @@ use Rattle.clap.specs.Walk.{Text}
 use Rattle.folded_lines.specs.Reading.{read_folded}
 use Rattle.run_options.specs.declared.formats.Format.{Format}
 use Rattle.sample_tables.specs.declared.samples.Sample.{Sample}
-use Rattle.stack_core.specs.Reading.{Rest}
 use Rattle.command_line.specs.Plans.{IsFaultAmong, limit_of}
 use Rattle.command_line.specs.declared.plans.CallTable.{CallTable}
 use Rattle.command_line.specs.declared.plans.Form.TheVariants as form
@@ -21,11 +20,11 @@ use Rattle.opened_sources.specs.declared.failures.Failure.TheVariants.{TooManyFi
 use Rattle.sent_views.specs.Pages.{called_text, page_text, peeked_text, picture_text, told_in}
 use Rattle.sent_views.specs.declared.run_facts.RunFacts.{RunFacts}
 use Rattle.source_views.specs.Texts.{IsOrderless, told_text, view_text}
-use Rattle.flame_tool.specs.KnownFacts.{known_facts}
+use Rattle.flame_tool.specs.KnownFacts.{facts_of, known_sources, wanted_rests}
 use Rattle.flame_tool.specs.LiveRuns.{AreFaultless, HasTextFault, ShowsAllOf, ShowsFirstOf, ShowsSomeOf, known_texts, live_texts, read_texts}
-use Rattle.flame_tool.specs.Requests.{asked_faults, asked_plan, known_rests}
-use Rattle.flame_tool.specs.Runs.{IsClean, IsFault, text_of, lists_of, FailsUntouched, GainsFront, Shows, ShowsFront, ShowsSamples, HasFault, IsOfSamples, HasGrown, HasNotGrown}
-use Rattle.flame_tool.specs.StrictRuns.{HasPlainFault, has_strict_fault, known_sources}
+use Rattle.flame_tool.specs.Requests.{asked_faults, asked_plan}
+use Rattle.flame_tool.specs.Runs.{IsClean, IsFault, text_of, wanted_lists, FailsUntouched, GainsFront, Shows, ShowsFront, ShowsSamples, HasFault, IsOfSamples, HasGrown, HasNotGrown}
+use Rattle.flame_tool.specs.StrictRuns.{HasPlainFault, has_strict_fault}
 use Rattle.flame_tool.specs.ToldLive.{IsOfFailure, IsUnopened, TellsLiveFailure, TellsStreams, TellsSuch}
 use Rattle.flame_tool.specs.ToldRuns.{TellsFailure, TellsGrown, TellsProfile, TellsSources, said_of_sources}
 use Rattle.flame_tool.specs.TypeRuns.{known_profile, HasTableFault, ShowsTypes, ShowsTypesFront}
@@ -70,21 +69,17 @@ change held_before held_after failed_before failed_after = record {
 abbrev pub Succeeds : ℕ → Type 0
 Succeeds answer = (answer ≡ 0) ⊎ (answer ≡ 4)
 
--- what holds where the bytes of a plan's sources are known, of the samples that are asked for and the endings, or of the bytes; and where
--- those of its first file are
-abbrev pub IfRests : Plan → KnownFiles → (List Rest → Type 0) → Type 0
-IfRests plan files = IfSome (known_rests plan files.input files.named)
-
+-- what holds where the bytes of a plan's sources are known, and where those of its first file are
 abbrev pub IfSources : Plan → KnownFiles → (List (Format × List ℕ) → Type 0) → Type 0
 IfSources plan files = IfSome (known_sources plan files.input files.named)
 
 abbrev pub IfProfile : Plan → KnownFiles → (List ℕ → Type 0) → Type 0
 IfProfile plan files = IfSome (known_profile plan files.named)
 
--- the output gained this text of the samples, and of what is known beside them
-abbrev pub GainsText : Plan → KnownFiles → Change → (RunFacts → List (List Sample) → List ℕ) → Type 0
-GainsText plan files out text = IfSome (known_facts plan files.input files.named) (λ facts. IfRests plan files (λ rests.
-    Appends out.held_before out.held_after (text facts (lists_of rests))))
+-- the output gained this text of the samples of sources, and of what is known beside them
+abbrev pub GainsText : Plan → Change → (RunFacts → List (List Sample) → List ℕ) → List (Format × List ℕ) → Type 0
+GainsText plan out text sources =
+    Appends out.held_before out.held_after (text (facts_of plan.options sources) (wanted_lists plan sources))
 
 -- what is promised of a run of this plan, which had these files and outlets, and answered this status: for each status what the output
 -- gained, why, and what standard error was told. All is over bytes that are known. Where it is said that `err` gained something, a call of
@@ -100,27 +95,27 @@ pub record PlanShows (plan : Plan) (files : KnownFiles) (answer : ℕ) (out err 
   pub many : answer ≡ 2 → 64 < length plan.files
   pub few : answer ≢ 2 → length plan.files ≤ 64
   -- success means that the sources have no fault, and that the text that the plan asks for went out
-  pub shown : Succeeds answer → IfRests plan files (Shows plan (known_facts plan files.input files.named) out.held_before out.held_after)
+  pub shown : Succeeds answer → IfSources plan files (Shows plan out.held_before out.held_after)
   pub shown_exactly : Succeeds answer → plan.form ≡ form.Text → IsOrderless plan.view plan.options.every → IsOfSamples plan.view →
-      IfRests plan files (λ rests. Appends out.held_before out.held_after (view_text plan.view (lists_of rests) [] None))
+      IfSources plan files (GainsText plan out (λ _ lists. view_text plan.view lists [] None))
   -- tables of functions also say the type and the unit of the weights, and what all samples weigh where some are left out
   pub shown_with_facts : Succeeds answer → plan.form ≡ form.Text → IsOrderless plan.view plan.options.every →
-      GainsText plan files out (λ facts lists. told_text (told_in plan facts lists) plan.view lists [] None)
+      IfSources plan files (GainsText plan out (λ facts lists. told_text (told_in plan facts lists) plan.view lists [] None))
   -- of a page without snapshots no order of the samples is left, of a picture none at all
   pub shown_page : Succeeds answer → (page : PageForm) → plan.form ≡ form.Page page → IsOrderless plan.view plan.options.every →
-      GainsText plan files out (λ facts lists. page_text plan facts page lists [] None)
+      IfSources plan files (GainsText plan out (λ facts lists. page_text plan facts page lists [] None))
   pub shown_svg : Succeeds answer → (picture : PictureForm) → plan.form ≡ form.Picture picture →
-      GainsText plan files out (λ facts. picture_text plan facts picture)
+      IfSources plan files (GainsText plan out (λ facts. picture_text plan facts picture))
   -- nor of the callers of a function, of its callees, and of both
-  pub shown_callers : Succeeds answer → (table : CallTable) → plan.form ≡ form.Callers table → GainsText plan files out (called_text Callers table plan)
-  pub shown_callees : Succeeds answer → (table : CallTable) → plan.form ≡ form.Callees table → GainsText plan files out (called_text Callees table plan)
-  pub shown_peek : Succeeds answer → (table : CallTable) → plan.form ≡ form.Peek table → GainsText plan files out (peeked_text table plan)
-  pub faulty : answer ≡ 1 → IfRests plan files (HasPlainFault plan)
+  pub shown_callers : Succeeds answer → (table : CallTable) → plan.form ≡ form.Callers table → IfSources plan files (GainsText plan out (called_text Callers table plan))
+  pub shown_callees : Succeeds answer → (table : CallTable) → plan.form ≡ form.Callees table → IfSources plan files (GainsText plan out (called_text Callees table plan))
+  pub shown_peek : Succeeds answer → (table : CallTable) → plan.form ≡ form.Peek table → IfSources plan files (GainsText plan out (peeked_text table plan))
+  pub faulty : answer ≡ 1 → IfSources plan files (HasPlainFault plan)
   -- 3 leaves nothing or a part of the text from its front
-  pub front : answer ≡ 3 → Keeps out.held_before out.held_after
-      ⊎ IfRests plan files (ShowsFront plan (known_facts plan files.input files.named) out.held_before out.held_after)
+  pub partly : answer ≡ 3 → Keeps out.held_before out.held_after
+      ⊎ IfSources plan files (ShowsFront plan out.held_before out.held_after)
   -- a fault of a source ends the run before the output is touched: with 1, or with 3 where the run failed before it was collected
-  pub untouched : ShowsSamples plan.form → IfRests plan files (λ rests. HasFault rests →
+  pub untouched : ShowsSamples plan.form → IfSources plan files (λ sources. HasFault (wanted_rests plan sources) →
       FailsUntouched answer out.held_before out.held_after out.failed_before out.failed_after)
   -- where the plan asks for it, a line that is ignored and a source without a sample are faults, too: success means that no source has one,
   -- 1 that one has, and such a fault leaves the output untouched
@@ -132,13 +127,13 @@ pub record PlanShows (plan : Plan) (files : KnownFiles) (answer : ℕ) (out err 
       has_strict_fault plan.options sources ≡ true → FailsUntouched answer out.held_before out.held_after out.failed_before out.failed_after)
   -- 4 comes only of a limit, and means that there are functions whose share of own weight grew by more than that. At 0 there is none
   pub limit : answer ≡ 4 → IsSome (limit_of plan.view)
-  pub grown : answer ≡ 4 → IfRests plan files (HasGrown plan)
-  pub not_grown : answer ≡ 0 → IfRests plan files (HasNotGrown plan)
+  pub grown : answer ≡ 4 → IfSources plan files (HasGrown plan)
+  pub not_grown : answer ≡ 0 → IfSources plan files (HasNotGrown plan)
   -- the same of the sample types of a profile: success is their text, 1 is a fault of the profile before its samples, and 3 leaves nothing
   -- or a part of the text from its front
   pub types : Succeeds answer → plan.form ≡ form.Types → IfProfile plan files (ShowsTypes out.held_before out.held_after)
   pub types_faulty : answer ≡ 1 → plan.form ≡ form.Types → IfProfile plan files HasTableFault
-  pub types_front : answer ≡ 3 → Keeps out.held_before out.held_after
+  pub types_partly : answer ≡ 3 → Keeps out.held_before out.held_after
       ⊎ (plan.form ≡ form.Types → IfProfile plan files (ShowsTypesFront out.held_before out.held_after))
   pub types_untouched : plan.form ≡ form.Types → IfProfile plan files (λ profile. HasTableFault profile →
       FailsUntouched answer out.held_before out.held_after out.failed_before out.failed_after)

@@ -1,5 +1,5 @@
 -- What a run leaves on its output, and what that says of its sources.
-use Rattle.std.specs.Prelude.{◌≡◌, ◌≢◌, ℕ, List, [], Option, IfSome, take, map, All, Any}
+use Rattle.std.specs.Prelude.{◌≡◌, ◌≢◌, ℕ, List, [], Option, take, map, All, Any}
 use Rattle.std.specs.Io.KnownBytes.{Appends, Keeps}
 use Rattle.byte_io.specs.Pieces.{AppendsFront}
 use Rattle.stack_core.specs.Interleaving.{IsInterleaving}
@@ -16,7 +16,8 @@ use Rattle.command_line.specs.declared.plans.View.TheVariants.{Fold, Graph, Char
 use Rattle.view_texts.specs.Fold.{fold_text}
 use Rattle.sent_views.specs.Pages.{shown_text}
 use Rattle.source_views.specs.Texts.{grown_names}
-use Rattle.sent_views.specs.declared.run_facts.RunFacts.{RunFacts}
+use Rattle.run_options.specs.declared.formats.Format.{Format}
+use Rattle.flame_tool.specs.KnownFacts.{facts_of, wanted_rests}
 
 -- all of the source was read
 abbrev pub IsClean : SourceEnd → Type 0
@@ -42,6 +43,9 @@ GainsFront bytes old new = (count : ℕ) × Appends old new (take count (text_of
 abbrev pub lists_of : List Rest → List (List Sample)
 lists_of rests = map (λ rest. rest.samples) rests
 
+abbrev pub wanted_lists : Plan → List (Format × List ℕ) → List (List Sample)
+wanted_lists plan sources = lists_of (wanted_rests plan sources)
+
 -- samples are shown, and not what a profile says of them
 abbrev pub ShowsSamples : Form → Type 0
 ShowsSamples form.Text = Unit {0}
@@ -53,30 +57,28 @@ ShowsSamples (form.Callers table) = Unit {0}
 ShowsSamples (form.Callees table) = Unit {0}
 ShowsSamples (form.Peek table) = Unit {0}
 
--- a text that the plan asks for: all of each source was read, and it is the view of their samples, its page or its picture, in
+-- a text that the plan asks for of its sources: all of each was read, and it is the view of their samples, its page or its picture, in
 -- an order in which they may come
-pub record IsTextOf (plan : Plan) (facts : RunFacts) (rests : List Rest) (text : List ℕ) : Type 0 where
-  pub clean : All (λ rest. IsClean rest.ending) rests
+pub record IsTextOf (plan : Plan) (sources : List (Format × List ℕ)) (text : List ℕ) : Type 0 where
+  pub clean : All (λ rest. IsClean rest.ending) (wanted_rests plan sources)
   pub order : List ℕ
-  pub ordered : IsInterleaving order (lists_of rests)
-  pub text_is : text ≡ shown_text plan facts (lists_of rests) order plan.options.every
+  pub ordered : IsInterleaving order (wanted_lists plan sources)
+  pub text_is : text ≡ shown_text plan (facts_of plan.options sources) (wanted_lists plan sources) order plan.options.every
 
--- the output gained what the plan asks for, if that shows samples; the facts are known where the samples are
-abbrev pub Shows : Plan → Option RunFacts → Option (List ℕ) → Option (List ℕ) → List Rest → Type 0
-Shows plan known old new rests =
-    ShowsSamples plan.form → IfSome known (λ facts. (text : List ℕ) × IsTextOf plan facts rests text × Appends old new text)
+-- the output gained what the plan asks for, if that shows samples
+abbrev pub Shows : Plan → Option (List ℕ) → Option (List ℕ) → List (Format × List ℕ) → Type 0
+Shows plan old new sources = ShowsSamples plan.form → (text : List ℕ) × IsTextOf plan sources text × Appends old new text
 
 -- the output gained a part of that from its front, or nothing
-abbrev pub ShowsFront : Plan → Option RunFacts → Option (List ℕ) → Option (List ℕ) → List Rest → Type 0
-ShowsFront plan known old new rests =
-    ShowsSamples plan.form → IfSome known (λ facts. (text : List ℕ) × IsTextOf plan facts rests text × AppendsFront text old new)
+abbrev pub ShowsFront : Plan → Option (List ℕ) → Option (List ℕ) → List (Format × List ℕ) → Type 0
+ShowsFront plan old new sources = ShowsSamples plan.form → (text : List ℕ) × IsTextOf plan sources text × AppendsFront text old new
 
 -- there are functions whose share grew by more than the plan's limit, or there are none
-abbrev pub HasGrown : Plan → List Rest → Type 0
-HasGrown plan rests = grown_names plan.view (lists_of rests) ≢ []
+abbrev pub HasGrown : Plan → List (Format × List ℕ) → Type 0
+HasGrown plan sources = grown_names plan.view (wanted_lists plan sources) ≢ []
 
-abbrev pub HasNotGrown : Plan → List Rest → Type 0
-HasNotGrown plan rests = ShowsSamples plan.form → grown_names plan.view (lists_of rests) ≡ []
+abbrev pub HasNotGrown : Plan → List (Format × List ℕ) → Type 0
+HasNotGrown plan sources = ShowsSamples plan.form → grown_names plan.view (wanted_lists plan sources) ≡ []
 
 -- the text of the view says nothing but what the samples are
 abbrev pub IsOfSamples : View → Type 0

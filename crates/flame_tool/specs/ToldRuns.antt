@@ -7,11 +7,10 @@ use Rattle.command_line.specs.declared.plans.Plan.{Plan}
 use Rattle.opened_sources.specs.Messages.{Tells, message_of_ending, message_of_failure, message_of_strict_fault, said_of_each}
 use Rattle.opened_sources.specs.Failures.{status_of}
 use Rattle.opened_sources.specs.declared.failures.Failure.{Failure}
-use Rattle.source_lists.specs.OmittedNames.{shown_rests}
 use Rattle.source_lists.specs.Sources.{asked_rests}
 use Rattle.source_lists.specs.Strictness.{source_fault}
 use Rattle.source_views.specs.Texts.{growth_line}
-use Rattle.flame_tool.specs.Runs.{lists_of}
+use Rattle.flame_tool.specs.Runs.{wanted_lists}
 use Rattle.flame_tool.specs.TypeRuns.{table_fault}
 
 -- ---- of the sources
@@ -34,7 +33,7 @@ TellsSources plan old new before after sources = Tells (said_of_sources plan sou
 -- which functions grew over the plan's limit, in a line that is empty where none did
 abbrev pub said_of_growth : Plan → List (Format × List ℕ) → List ℕ
 said_of_growth plan sources =
-    growth_line plan.view (lists_of (shown_rests plan.from plan.omit (asked_rests plan.options sources)))
+    growth_line plan.view (wanted_lists plan sources)
 
 -- that was told behind what there is to say of the sources, and nothing else
 abbrev pub TellsGrown : Plan → Option (List ℕ) → Option (List ℕ) → ℕ → ℕ → List (Format × List ℕ) → Type 0

@@ -9,4 +9,3 @@ pub mod Renewals
 pub mod Saying
 pub mod Telling
 pub mod TypeFailures
-pub mod Wanted

@@ -1,11 +1,10 @@
 //! A run of a plan.
 ghost use Rattle.std.specs.Prelude.{◌≡◌, ◌≢◌, ◌≤◌, ◌<◌, false, true, IfSome, IfErr, IsErrOf, OnOk, length, IfOk, IsSome};
 ghost use Rattle.command_line.specs.Plans.{IsComparison, IsOfOneProfile, limit_of};
-ghost use Rattle.flame_tool.specs.KnownFacts.{known_facts};
+ghost use Rattle.flame_tool.specs.KnownFacts.{known_sources};
 ghost use Rattle.flame_tool.specs.KnownRuns.{PlanShows, as_files, change};
-ghost use Rattle.flame_tool.specs.Requests.{known_rests};
 ghost use Rattle.flame_tool.specs.Runs.{Shows, ShowsSamples};
-ghost use Rattle.flame_tool.specs.StrictRuns.{has_strict_fault, known_sources};
+ghost use Rattle.flame_tool.specs.StrictRuns.{has_strict_fault};
 ghost use Rattle.flame_tool.specs.TypeRuns.{known_profile, ShowsTypes};
 ghost use Rattle.flame_tool.specs.checked.TypeFailures.{FailsTypes};
 ghost use Rattle.flame_tool.specs.checked.Failures.{Fails, FailsStrictly, KeepsOutput, TellsGrowth};
@@ -71,13 +70,11 @@ fn show_plan<T: Threads + Wait + Copy + Send + 'static, F: Files, W: Outlet, E: 
     requires every { IfSome plan.now.options.every (λ every. 1 ≤ every) }
     requires profile { plan.now.form ≡ Form.Types → IsOfOneProfile plan.now }
     ensures ok { OnOk result
-        (IfSome (known_rests plan.now (F.known_input files.old) (F.known_file files.old))
-        (Shows plan.now (known_facts plan.now (F.known_input files.old) (F.known_file files.old))
-        (W.contents out.old) (W.contents out.new))) }
+        (IfSome (known_sources plan.now (F.known_input files.old) (F.known_file files.old))
+        (Shows plan.now (W.contents out.old) (W.contents out.new))) }
     ensures err { IfErr result (λ failure.
-        IfSome (known_rests plan.now (F.known_input files.old) (F.known_file files.old))
-        (Fails plan.now (known_facts plan.now (F.known_input files.old) (F.known_file files.old))
-        (W.contents out.old) (W.contents out.new) failure)) }
+        IfSome (known_sources plan.now (F.known_input files.old) (F.known_file files.old))
+        (Fails plan.now (W.contents out.old) (W.contents out.new) failure)) }
     ensures strict { ShowsSamples plan.now.form → plan.now.is_strict ≡ true → OnOk result
         (IfSome (known_sources plan.now (F.known_input files.old) (F.known_file files.old))
         (λ sources. has_strict_fault plan.now.options sources ≡ false)) }
@@ -85,7 +82,7 @@ fn show_plan<T: Threads + Wait + Copy + Send + 'static, F: Files, W: Outlet, E: 
         IfSome (known_sources plan.now (F.known_input files.old) (F.known_file files.old))
         (λ sources. FailsStrictly (has_strict_fault plan.now.options sources) failure)) }
     ensures grown { IfOk result (λ is_over.
-        IfSome (known_rests plan.now (F.known_input files.old) (F.known_file files.old))
+        IfSome (known_sources plan.now (F.known_input files.old) (F.known_file files.old))
         (TellsGrowth is_over plan.now)) }
     ensures limit { IfOk result (λ is_over. is_over ≡ true → IsSome (limit_of plan.now.view)) }
     ensures types { OnOk result (plan.now.form ≡ Form.Types

@@ -8,13 +8,11 @@ ghost use Rattle.source_lists.specs.Sources.{asked_rests, known_inputs, whole_we
 ghost use Rattle.source_lists.specs.Strictness.{source_fault};
 ghost use Rattle.flame_tool.specs.ToldRuns.{TellsEndings};
 ghost use Rattle.source_lists.specs.Types.{types_of};
-ghost use Rattle.flame_tool.specs.KnownFacts.{facts_of, known_facts};
-ghost use Rattle.flame_tool.specs.Requests.{known_rests};
+ghost use Rattle.flame_tool.specs.KnownFacts.{known_sources};
 ghost use Rattle.flame_tool.specs.Runs.{Shows, ShowsSamples};
-ghost use Rattle.flame_tool.specs.StrictRuns.{has_strict_fault, known_sources};
+ghost use Rattle.flame_tool.specs.StrictRuns.{has_strict_fault};
 ghost use Rattle.flame_tool.specs.checked.Failures.{Fails, FailsStrictly, KeepsOutput, TellsGrowth};
 ghost use Rattle.flame_tool.specs.checked.Saying.{SaidOfSources};
-ghost use Rattle.flame_tool.specs.checked.Wanted.{wanted_rests};
 ghost use Rattle.opened_sources.specs.Messages.{Tells, message_of_strict_fault, said_of_each};
 ghost use Rattle.flame_tool.specs.checked.Telling.{form_tells, view_tells};
 ghost use Rattle.opened_sources.specs.Failures.{Flushes};
@@ -48,13 +46,11 @@ pub(crate) fn show_views<T: Threads + Wait + Copy + Send + 'static, F: Files, W:
     requires pairs { IsComparison plan.now.view → length plan.now.files ≡ 2 }
     requires every { IfSome plan.now.options.every (λ every. 1 ≤ every) }
     ensures ok { OnOk result
-        (IfSome (known_rests plan.now (F.known_input files.old) (F.known_file files.old))
-        (Shows plan.now (known_facts plan.now (F.known_input files.old) (F.known_file files.old))
-        (W.contents out.old) (W.contents out.new))) }
+        (IfSome (known_sources plan.now (F.known_input files.old) (F.known_file files.old))
+        (Shows plan.now (W.contents out.old) (W.contents out.new))) }
     ensures err { IfErr result (λ failure.
-        IfSome (known_rests plan.now (F.known_input files.old) (F.known_file files.old))
-        (Fails plan.now (known_facts plan.now (F.known_input files.old) (F.known_file files.old))
-        (W.contents out.old) (W.contents out.new) failure)) }
+        IfSome (known_sources plan.now (F.known_input files.old) (F.known_file files.old))
+        (Fails plan.now (W.contents out.old) (W.contents out.new) failure)) }
     ensures strict { ShowsSamples plan.now.form → plan.now.is_strict ≡ true → OnOk result
         (IfSome (known_sources plan.now (F.known_input files.old) (F.known_file files.old))
         (λ sources. has_strict_fault plan.now.options sources ≡ false)) }
@@ -64,7 +60,7 @@ pub(crate) fn show_views<T: Threads + Wait + Copy + Send + 'static, F: Files, W:
     ensures kept { IfErr result (λ failure.
         KeepsOutput (W.contents out.old) (W.contents out.new) failure) }
     ensures grown { IfOk result (λ is_over.
-        IfSome (known_rests plan.now (F.known_input files.old) (F.known_file files.old))
+        IfSome (known_sources plan.now (F.known_input files.old) (F.known_file files.old))
         (TellsGrowth is_over plan.now)) }
     ensures limit { IfOk result (λ is_over. is_over ≡ true → IsSome (limit_of plan.now.view)) }
     ensures says { F.may_have_terminal ≡ false → SaidOfSources
@@ -100,12 +96,10 @@ fn show_sources<T: Threads + Wait + Copy + Send + 'static, W: Outlet, E: Outlet>
     requires few { length inputs.items ≤ 64 }
     requires pairs { IsComparison plan.now.view → length inputs.items ≡ 2 }
     requires every { IfSome plan.now.options.every (λ every. 1 ≤ every) }
-    ensures ok { OnOk result (IfSome (known_inputs inputs.items) (λ sources.
-        Shows plan.now (Some (facts_of plan.now.options sources))
-        (W.contents out.old) (W.contents out.new) (wanted_rests plan.now sources))) }
-    ensures err { IfErr result (λ failure. IfSome (known_inputs inputs.items) (λ sources.
-        Fails plan.now (Some (facts_of plan.now.options sources))
-        (W.contents out.old) (W.contents out.new) failure (wanted_rests plan.now sources))) }
+    ensures ok { OnOk result (IfSome (known_inputs inputs.items)
+        (Shows plan.now (W.contents out.old) (W.contents out.new))) }
+    ensures err { IfErr result (λ failure. IfSome (known_inputs inputs.items)
+        (Fails plan.now (W.contents out.old) (W.contents out.new) failure)) }
     ensures kept { IfErr result (λ failure.
         KeepsOutput (W.contents out.old) (W.contents out.new) failure) }
     ensures strict { plan.now.is_strict ≡ true → OnOk result (IfSome (known_inputs inputs.items)
@@ -113,8 +107,8 @@ fn show_sources<T: Threads + Wait + Copy + Send + 'static, W: Outlet, E: Outlet>
     ensures strict_err { plan.now.is_strict ≡ true → IfErr result (λ failure.
         IfSome (known_inputs inputs.items)
         (λ sources. FailsStrictly (has_strict_fault plan.now.options sources) failure)) }
-    ensures grown { IfOk result (λ is_over. IfSome (known_inputs inputs.items) (λ sources.
-        TellsGrowth is_over plan.now (wanted_rests plan.now sources))) }
+    ensures grown { IfOk result (λ is_over. IfSome (known_inputs inputs.items)
+        (TellsGrowth is_over plan.now)) }
     ensures limit { IfOk result (λ is_over. is_over ≡ true → IsSome (limit_of plan.now.view)) }
     ensures says { advice.entry.is_wanted ≡ false → SaidOfSources
         (E.contents err.old) (E.contents err.new) (E.failures err.old) (E.failures err.new)

@@ -2,13 +2,12 @@
 use Rattle.std.specs.Prelude.{◌≡◌, ℕ, Bool, List, true, false, Option, Result, Ok, Err}
 use Rattle.std.specs.Io.KnownBytes.{Keeps}
 use Rattle.stack_core.specs.Ledgers.{ListState}
-use Rattle.stack_core.specs.Reading.{Rest}
 use Rattle.command_line.specs.declared.plans.Plan.{Plan}
 use Rattle.byte_io.specs.Pieces.{AppendsFront}
 use Rattle.opened_sources.specs.Failures.{has_fault, status_of}
 use Rattle.opened_sources.specs.declared.failures.Failure.{Failure}
 use Rattle.opened_sources.specs.declared.failures.Failure.TheVariants.{TooManyFiles, Unreadable, TooLarge, OutOfMemory, NoThread, Unfinished, Faults, Output}
-use Rattle.sent_views.specs.declared.run_facts.RunFacts.{RunFacts}
+use Rattle.run_options.specs.declared.formats.Format.{Format}
 use Rattle.flame_tool.specs.Runs.{HasGrown, HasNotGrown, ShowsFront}
 use Rattle.flame_tool.specs.StrictRuns.{HasPlainFault}
 
@@ -20,9 +19,9 @@ exit_status (Ok false) = 0
 exit_status (Err failure) = status_of failure
 
 -- what a run tells of the functions of its sources: whether some grew over the limit
-abbrev pub TellsGrowth : Bool → Plan → List Rest → Type 0
-TellsGrowth true plan rests = HasGrown plan rests
-TellsGrowth false plan rests = HasNotGrown plan rests
+abbrev pub TellsGrowth : Bool → Plan → List (Format × List ℕ) → Type 0
+TellsGrowth true plan sources = HasGrown plan sources
+TellsGrowth false plan sources = HasNotGrown plan sources
 
 -- the output is as it was, unless a text was not sent whole
 abbrev pub KeepsOutput : Option (List ℕ) → Option (List ℕ) → Failure → Type 0
@@ -36,15 +35,15 @@ KeepsOutput old new Faults = Keeps old new
 KeepsOutput old new (Output fault) = Unit {0}
 
 -- what a failed run of the plan says of the sources and of the output
-abbrev pub Fails : Plan → Option RunFacts → Option (List ℕ) → Option (List ℕ) → Failure → List Rest → Type 0
-Fails plan known old new TooManyFiles rests = Unit {0}
-Fails plan known old new (Unreadable source) rests = Unit {0}
-Fails plan known old new (TooLarge source) rests = Unit {0}
-Fails plan known old new OutOfMemory rests = Unit {0}
-Fails plan known old new NoThread rests = Unit {0}
-Fails plan known old new (Unfinished source) rests = Unit {0}
-Fails plan known old new Faults rests = HasPlainFault plan rests
-Fails plan known old new (Output fault) rests = ShowsFront plan known old new rests
+abbrev pub Fails : Plan → Option (List ℕ) → Option (List ℕ) → Failure → List (Format × List ℕ) → Type 0
+Fails plan old new TooManyFiles sources = Unit {0}
+Fails plan old new (Unreadable source) sources = Unit {0}
+Fails plan old new (TooLarge source) sources = Unit {0}
+Fails plan old new OutOfMemory sources = Unit {0}
+Fails plan old new NoThread sources = Unit {0}
+Fails plan old new (Unfinished source) sources = Unit {0}
+Fails plan old new Faults sources = HasPlainFault plan sources
+Fails plan old new (Output fault) sources = ShowsFront plan old new sources
 
 -- what a failed run that is strict says of its sources, of which one has a strict fault or none has
 abbrev pub FailsStrictly : Bool → Failure → Type 0

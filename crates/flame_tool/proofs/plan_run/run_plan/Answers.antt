@@ -1,22 +1,22 @@
-use Rattle.std.proofs.Common.{◌≡◌, ◌∙◌, ℕ, List, IfErr, IfSome, arith, false, refl, subst, sym}
+use Rattle.std.proofs.Common.{◌≡◌, ◌∙◌, ℕ, List, [], None, IfErr, IfSome, arith, false, refl, subst, sym}
 use Rattle.std.specs.Prelude.{IsSome, true}
 use Rattle.command_line.specs.Plans.{limit_of}
 use Rattle.command_line.specs.declared.plans.Form.TheVariants as form
 use Rattle.function_sums.specs.declared.call_sides.CallSide.TheVariants.{Callers, Callees}
 use Rattle.opened_sources.specs.Messages.{Tells, message_of_failure}
 use Rattle.opened_sources.specs.declared.failures.Failure.TheVariants.{TooManyFiles}
-use Rattle.sent_views.specs.Pages.{called_text, peeked_text, picture_text}
-use Rattle.flame_tool.specs.KnownFacts.{known_facts}
+use Rattle.sent_views.specs.Pages.{asked_heading, called_text, page_text, peeked_text, picture_text, told_in}
+use Rattle.sent_views.proofs.PageLemmas.{orderless_page}
+use Rattle.source_views.specs.Texts.{told_text, view_text}
+use Rattle.flame_tool.specs.KnownFacts.{known_sources}
 use Rattle.flame_tool.specs.KnownRuns.{PlanShows, as_files, change}
-use Rattle.flame_tool.specs.Requests.{known_rests}
 use Rattle.flame_tool.specs.Runs.{ShowsSamples}
-use Rattle.flame_tool.specs.StrictRuns.{has_strict_fault, known_sources}
+use Rattle.flame_tool.specs.StrictRuns.{has_strict_fault}
 use Rattle.flame_tool.specs.TypeRuns.{known_profile}
 use Rattle.flame_tool.specs.checked.Failures.{TellsGrowth, exit_status}
 use Rattle.flame_tool.specs.checked.Saying.{EndsOfSources, EndsOfTypes}
 use Rattle.flame_tool.proofs.ExitStatuses.{at_success, faulty_at_one, few_but_at_two, flushed_at_success, front_at_three, kept_at, many_at_two, of_answer, status_within, types_faulty_at_one, types_front_at_three, unfailed_but_at_three}
-use Rattle.flame_tool.proofs.KnownSources.{facts_are_known}
-use Rattle.flame_tool.proofs.RunEndings.{exactly, form_exactly, page_exactly, with_facts}
+use Rattle.flame_tool.proofs.RunEndings.{form_exactly, orderless, plainly}
 use Rattle.flame_tool.proofs.SaidSources.{ends_of_sources, ends_of_types, failure_told}
 use Rattle.flame_tool.proofs.StrictEndings.{strict_at_one, strict_untouched}
 use Rattle.flame_tool.proofs.ToldEndings.{is_none}
@@ -28,8 +28,6 @@ returns g c =
     let plan = c.args.plan in
     let input = g.F.Files.known_input c.args.files.now in
     let named = g.F.Files.known_file c.args.files.now in
-    let facts = known_facts plan input named in
-    let rests = known_rests plan input named in
     let sources = known_sources plan input named in
     let profile = known_profile plan named in
     let shown = c.show_plan-shown in
@@ -50,7 +48,7 @@ returns g c =
     (ends_of_sources contents failures plan sources _ mid end result (ran.says none samples) c.end_run.ensures.untold (told none)) in
     let said_types = λ (none : g.F.Files.may_have_terminal ≡ false) (types : plan.form ≡ form.Types). subst (λ start. EndsOfTypes (contents start) (contents end) (failures start) (failures end) plan.files profile (exit_status result)) (c.await_input.ensures.untold none)
     (ends_of_types contents failures plan.files profile _ mid end result (ran.says_types none types) c.end_run.ensures.untold (told none)) in
-    let grown = of_answer (λ is_over. IfSome rests (TellsGrowth is_over plan)) result ran.grown in
+    let grown = of_answer (λ is_over. IfSome sources (TellsGrowth is_over plan)) result ran.grown in
     subst (λ answer. PlanShows plan (as_files input named g.F.Files.may_have_terminal) answer (change old new before after) (change (contents start) (contents end) (failures start) (failures end)) (g.W.Outlet.is_flushed shown.new.out)) (sym c.end_run.ensures.status) (record {
       status = status_within result;
       flushed = λ success. flushed_at_success before after result success ran.flushed;
@@ -60,16 +58,19 @@ returns g c =
       many = λ two. many_at_two result two ran.many;
       few = λ other. few_but_at_two result other ran.few;
       shown = λ success. at_success result success ran.ok;
-      shown_exactly = λ success. exactly plan old new facts rests (facts_are_known plan input named) (at_success result success ran.ok);
-      shown_with_facts = λ success. with_facts plan old new facts rests (at_success result success ran.ok);
-      shown_page = λ success. page_exactly plan old new facts rests (at_success result success ran.ok);
-      shown_svg = λ success picture. form_exactly plan old new (form.Picture picture) (λ facts. picture_text plan facts picture) tt (λ facts lists order. refl) facts rests (at_success result success ran.ok);
-      shown_callers = λ success table. form_exactly plan old new (form.Callers table) (called_text Callers table plan) tt (λ facts lists order. refl) facts rests (at_success result success ran.ok);
-      shown_callees = λ success table. form_exactly plan old new (form.Callees table) (called_text Callees table plan) tt (λ facts lists order. refl) facts rests (at_success result success ran.ok);
-      shown_peek = λ success table. form_exactly plan old new (form.Peek table) (peeked_text table plan) tt (λ facts lists order. refl) facts rests (at_success result success ran.ok);
-      faulty = λ one. faulty_at_one plan facts rests old new result one ran.err;
-      front = λ three. front_at_three plan facts rests old new result three ran.kept ran.err;
-      untouched = λ samples. untouched_at_fault _ plan old new before after samples facts rests result (facts_are_known plan input named) ran.ok ran.err ran.kept ran.flushed;
+      shown_exactly = λ success as_text is tells. form_exactly plan old new form.Text (λ _ lists. view_text plan.view lists [] None) tt
+          (λ facts lists order. orderless (told_in plan facts lists) lists order plan.options.every plan.view is ∙ plainly (told_in plan facts lists) lists plan.view tells) sources (at_success result success ran.ok) as_text;
+      shown_with_facts = λ success as_text is. form_exactly plan old new form.Text (λ facts lists. told_text (told_in plan facts lists) plan.view lists [] None) tt
+          (λ facts lists order. orderless (told_in plan facts lists) lists order plan.options.every plan.view is) sources (at_success result success ran.ok) as_text;
+      shown_page = λ success page as_page is. form_exactly plan old new (form.Page page) (λ facts lists. page_text plan facts page lists [] None) tt
+          (λ facts lists order. sym (orderless_page (asked_heading plan facts page lists) plan.view lists order plan.options.every is)) sources (at_success result success ran.ok) as_page;
+      shown_svg = λ success picture. form_exactly plan old new (form.Picture picture) (λ facts. picture_text plan facts picture) tt (λ facts lists order. refl) sources (at_success result success ran.ok);
+      shown_callers = λ success table. form_exactly plan old new (form.Callers table) (called_text Callers table plan) tt (λ facts lists order. refl) sources (at_success result success ran.ok);
+      shown_callees = λ success table. form_exactly plan old new (form.Callees table) (called_text Callees table plan) tt (λ facts lists order. refl) sources (at_success result success ran.ok);
+      shown_peek = λ success table. form_exactly plan old new (form.Peek table) (peeked_text table plan) tt (λ facts lists order. refl) sources (at_success result success ran.ok);
+      faulty = λ one. faulty_at_one plan sources old new result one ran.err;
+      partly = λ three. front_at_three plan sources old new result three ran.kept ran.err;
+      untouched = λ samples. untouched_at_fault _ plan old new before after samples sources result ran.ok ran.err ran.kept ran.flushed;
       strict = λ success samples strict. at_success result success (ran.strict samples strict);
       strict_faulty = λ one samples strict. strict_at_one (has_strict_fault plan.options) sources result one (ran.strict_err samples strict);
       strict_untouched = λ samples strict. strict_untouched (has_strict_fault plan.options) sources _ old new before after result (ran.strict samples strict) (ran.strict_err samples strict) ran.kept ran.flushed;
@@ -78,7 +79,7 @@ returns g c =
       not_grown = grown.0;
       types = λ success. at_success result success ran.types;
       types_faulty = λ one. types_faulty_at_one _ profile old new result one ran.types_err;
-      types_front = λ three. types_front_at_three _ profile old new result three ran.kept ran.types_err;
+      types_partly = λ three. types_front_at_three _ profile old new result three ran.kept ran.types_err;
       types_untouched = untouched_at_table_fault _ old new before after _ profile result ran.types ran.types_err ran.kept ran.flushed;
       told = λ none low samples. (said none samples).low low;
       told_grown = λ none four samples. (said none samples).grown four;

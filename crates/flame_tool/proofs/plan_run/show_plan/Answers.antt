@@ -7,12 +7,12 @@ use Rattle.flame_tool.proofs.plan_run.show_plan.Goals as goal
 pub returns-in-Types-clause-ok : goal.returns-in-Types-clause-ok
 returns-in-Types-clause-ok g c =
     let types : c.args.plan.now.form ≡ form.Types = search rules in
-    unseen_ok c.args.plan.now _ _ _ types _ c.show_types.result
+    unseen_ok c.args.plan.now _ _ types _ c.show_types.result
 
 pub returns-in-Types-clause-err : goal.returns-in-Types-clause-err
 returns-in-Types-clause-err g c =
     let types : c.args.plan.now.form ≡ form.Types = search rules in
-    unseen_err c.args.plan.now _ _ _ types _ _ c.show_types.result (c.requires.profile types) c.show_types.ensures.err
+    unseen_err c.args.plan.now _ _ types _ _ c.show_types.result (c.requires.profile types) c.show_types.ensures.err
 
 pub returns-in-Types-clause-strict : goal.returns-in-Types-clause-strict
 returns-in-Types-clause-strict g c = λ samples strict.

@@ -20,7 +20,7 @@ returns-in-Ok g c =
       clean = λ none zero. input_clean input files _ _ plan (is_default none) (ran.shown (inl zero));
       text = λ none zero. input_text input files _ _ plan (is_default none) (ran.shown (inl zero));
       fault = λ none one. input_fault input files input input plan (is_default none) (ran.faulty one);
-      front = λ none three. input_front input files _ _ plan (is_default none) (ran.front three);
+      front = λ none three. input_front input files _ _ plan (is_default none) (ran.partly three);
     }
 
 -- words that are refused

@@ -13,7 +13,6 @@ use Rattle.flame_tool.specs.KnownFacts.{facts_of}
 use Rattle.flame_tool.specs.Runs.{Shows, lists_of}
 use Rattle.flame_tool.specs.StrictRuns.{HasPlainFault, has_strict_fault}
 use Rattle.flame_tool.specs.checked.Failures.{Fails, FailsStrictly, TellsGrowth}
-use Rattle.flame_tool.specs.checked.Wanted.{wanted_rests}
 use Rattle.flame_tool.proofs.KnownSources.{AreCollected, at_known, err_if_known, err_shown, if_known, lists_faultless, ok_if_known, ok_shown, growth_shown, samples_of_rests}
 use Rattle.flame_tool.proofs.GrownFunctions.{limit_told}
 use Rattle.flame_tool.proofs.RunEndings.{same_shown}
@@ -29,7 +28,7 @@ returns-clause-ok g c =
     let run = c.in_ok-shown.shown in
     let old = g.W.Outlet.contents c.args.out.now in
     let new = g.W.Outlet.contents c.send_lists.new.out in
-    ok_if_known c.send_lists.result (known_inputs c.args.inputs.items) (λ _ sources. Shows plan (Some (facts_of plan.options sources)) old new (wanted_rests plan sources))
+    ok_if_known c.send_lists.result (known_inputs c.args.inputs.items) (λ _. Shows plan old new)
     (λ sources is.
     let reads = at_known _ sources is c.in_ok-run.ensures.reads in
     let weight : c.in_ok-run.run'.whole_weight ≡ Some (whole_weight plan.options sources) = at_known _ sources is c.in_ok-run.ensures.weight in
@@ -46,7 +45,7 @@ returns-clause-err g c =
     let run = c.in_ok-shown.shown in
     let old = g.W.Outlet.contents c.args.out.now in
     let new = g.W.Outlet.contents c.send_lists.new.out in
-    err_if_known c.send_lists.result (known_inputs c.args.inputs.items) (λ failure sources. Fails plan (Some (facts_of plan.options sources)) old new failure (wanted_rests plan sources))
+    err_if_known c.send_lists.result (known_inputs c.args.inputs.items) (Fails plan old new)
     (λ sources is.
     let reads = at_known _ sources is c.in_ok-run.ensures.reads in
     let weight : c.in_ok-run.run'.whole_weight ≡ Some (whole_weight plan.options sources) = at_known _ sources is c.in_ok-run.ensures.weight in
@@ -81,8 +80,8 @@ soundness kept inputs sources Tells same is tells = at_known Tells sources (ap k
 pub returns-then-not-branch-clause-err : goal.returns-then-not-branch-clause-err
 returns-then-not-branch-clause-err g c =
     let plan = c.args.plan.now in
-    if_known (known_inputs c.args.inputs.items) (λ sources. HasPlainFault plan (wanted_rests plan sources))
-    (λ sources _. told_strictly plan (wanted_rests plan sources) (asked_strictly plan.is_strict _ c.in_ok-report_sources.ensures.loose c.if-not-branch.true))
+    if_known (known_inputs c.args.inputs.items) (HasPlainFault plan)
+    (λ sources _. told_strictly plan sources (asked_strictly plan.is_strict _ c.in_ok-report_sources.ensures.loose c.if-not-branch.true))
 
 pub returns-then-not-branch-clause-strict_err : goal.returns-then-not-branch-clause-strict_err
 returns-then-not-branch-clause-strict_err g c = λ strict.
@@ -124,7 +123,7 @@ pub returns-clause-grown : goal.returns-clause-grown
 returns-clause-grown g c =
     let plan = c.args.plan.now in
     let run = c.in_ok-shown.shown in
-    ok_if_known c.send_lists.result (known_inputs c.args.inputs.items) (λ is_over sources. TellsGrowth is_over plan (wanted_rests plan sources))
+    ok_if_known c.send_lists.result (known_inputs c.args.inputs.items) (λ is_over. TellsGrowth is_over plan)
     (λ sources is.
     let reads = at_known _ sources is c.in_ok-run.ensures.reads in
     let collected : AreCollected plan sources run.lists run.order = record { whole = c.in_ok-shown.ensures.lists ∙ ap (shown_rests plan.from plan.omit) (reads.whole (λ source index stops. stops)); ordered = c.in_ok-shown.ensures.order } in

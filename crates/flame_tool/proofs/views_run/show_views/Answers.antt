@@ -4,7 +4,7 @@ use Rattle.opened_sources.specs.Opening.{AreLoaded}
 use Rattle.flame_tool.specs.Runs.{Shows}
 use Rattle.flame_tool.specs.StrictRuns.{has_strict_fault}
 use Rattle.flame_tool.specs.checked.Failures.{Fails, FailsStrictly, TellsGrowth}
-use Rattle.flame_tool.proofs.KnownSources.{bytes_known, shown_known}
+use Rattle.flame_tool.proofs.KnownSources.{bytes_known}
 use Rattle.flame_tool.proofs.SaidSources.{said_known}
 use Rattle.flame_tool.proofs.ToldEndings.{is_none}
 use Rattle.flame_tool.proofs.views_run.show_views.Goals as goal
@@ -16,7 +16,7 @@ returns-clause-ok g c =
     let files = g.F.Files.known_file c.args.files.now in
     let inputs = c.in_ok-inputs.inputs.items in
     let loaded = subst (λ (paths : List (List ℕ)). AreLoaded plan.format input files paths inputs) c.get.ensures c.in_ok-inputs.ensures.loaded in
-    on_ok_weaker c.show_sources.result (shown_known plan input files inputs loaded (λ facts. Shows plan facts (g.W.Outlet.contents c.args.out.now) (g.W.Outlet.contents c.show_sources.new.out))) c.show_sources.ensures.ok
+    on_ok_weaker c.show_sources.result (bytes_known plan input files inputs loaded (Shows plan (g.W.Outlet.contents c.args.out.now) (g.W.Outlet.contents c.show_sources.new.out))) c.show_sources.ensures.ok
 
 pub returns-clause-err : goal.returns-clause-err
 returns-clause-err g c =
@@ -26,7 +26,7 @@ returns-clause-err g c =
     let inputs = c.in_ok-inputs.inputs.items in
     let loaded = subst (λ (paths : List (List ℕ)). AreLoaded plan.format input files paths inputs) c.get.ensures c.in_ok-inputs.ensures.loaded in
     IfErr-weaker c.show_sources.result _ _
-    (λ failure. shown_known plan input files inputs loaded (λ facts. Fails plan facts (g.W.Outlet.contents c.args.out.now) (g.W.Outlet.contents c.show_sources.new.out) failure)) c.show_sources.ensures.err
+    (λ failure. bytes_known plan input files inputs loaded (Fails plan (g.W.Outlet.contents c.args.out.now) (g.W.Outlet.contents c.show_sources.new.out) failure)) c.show_sources.ensures.err
 
 pub returns-clause-grown : goal.returns-clause-grown
 returns-clause-grown g c =
@@ -35,7 +35,7 @@ returns-clause-grown g c =
     let files = g.F.Files.known_file c.args.files.now in
     let inputs = c.in_ok-inputs.inputs.items in
     let loaded = subst (λ (paths : List (List ℕ)). AreLoaded plan.format input files paths inputs) c.get.ensures c.in_ok-inputs.ensures.loaded in
-    IfOk-weaker c.show_sources.result _ _ (λ is_over. shown_known plan input files inputs loaded (λ _. TellsGrowth is_over plan)) c.show_sources.ensures.grown
+    IfOk-weaker c.show_sources.result _ _ (λ is_over. bytes_known plan input files inputs loaded (TellsGrowth is_over plan)) c.show_sources.ensures.grown
 
 pub returns-clause-strict : goal.returns-clause-strict
 returns-clause-strict g c = λ samples strict.
