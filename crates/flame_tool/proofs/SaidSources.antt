@@ -98,7 +98,7 @@ module _ (old new : Option (List ℕ)) (before after : ℕ) where
 -- ---- behind what was told
 
 module _ {E : Type 0} (contents : E → Option (List ℕ)) (failures : E → ℕ) where
-  abbrev Gains : E → E → List ℕ → Type 0
+  abbrev pub Gains : E → E → List ℕ → Type 0
   Gains from to text = Tells text (contents from) (contents to) (failures from) (failures to)
 
   pub untold_tells : (old new : E) → new ≡ old → Gains old new []

@@ -7,5 +7,6 @@ pub mod LiveStreams
 pub mod RenewalProps
 pub mod Renewals
 pub mod Saying
+pub mod Showed
 pub mod Telling
 pub mod TypeFailures

@@ -1,15 +1,13 @@
 //! A run of a plan.
-ghost use Rattle.std.specs.Prelude.{◌≡◌, ◌≢◌, ◌≤◌, ◌<◌, false, true, IfSome, IfErr, IsErrOf, OnOk, length, IfOk, IsSome};
-ghost use Rattle.command_line.specs.Plans.{IsComparison, IsOfOneProfile, limit_of};
+ghost use Rattle.std.specs.Prelude.{◌≡◌, ◌≢◌, ◌≤◌, ◌<◌, false, IfSome, IfErr, IsErrOf, OnOk, length};
+ghost use Rattle.command_line.specs.Plans.{IsComparison, IsOfOneProfile};
 ghost use Rattle.flame_tool.specs.KnownFacts.{known_sources};
 ghost use Rattle.flame_tool.specs.KnownRuns.{PlanShows, as_files, change};
-ghost use Rattle.flame_tool.specs.Runs.{Shows, ShowsSamples};
-ghost use Rattle.flame_tool.specs.StrictRuns.{has_strict_fault};
+ghost use Rattle.flame_tool.specs.Runs.{Shows};
 ghost use Rattle.flame_tool.specs.TypeRuns.{known_profile, ShowsTypes};
 ghost use Rattle.flame_tool.specs.checked.TypeFailures.{FailsTypes};
-ghost use Rattle.flame_tool.specs.checked.Failures.{Fails, FailsStrictly, KeepsOutput, TellsGrowth};
-ghost use Rattle.flame_tool.specs.checked.Saying.{SaidOfSources, SaidOfTypes};
-ghost use Rattle.opened_sources.specs.Failures.{Flushes};
+ghost use Rattle.flame_tool.specs.checked.Saying.{SaidOfTypes};
+ghost use Rattle.flame_tool.specs.checked.Showed.{Showed};
 
 use crate::advice::Advice;
 use crate::exits::end_run;
@@ -69,41 +67,24 @@ fn show_plan<T: Threads + Wait + Copy + Send + 'static, F: Files, W: Outlet, E: 
     requires pairs { IsComparison plan.now.view → length plan.now.files ≡ 2 }
     requires every { IfSome plan.now.options.every (λ every. 1 ≤ every) }
     requires profile { plan.now.form ≡ Form.Types → IsOfOneProfile plan.now }
-    ensures ok { OnOk result
-        (IfSome (known_sources plan.now (F.known_input files.old) (F.known_file files.old))
-        (Shows plan.now (W.contents out.old) (W.contents out.new))) }
-    ensures err { IfErr result (λ failure.
-        IfSome (known_sources plan.now (F.known_input files.old) (F.known_file files.old))
-        (Fails plan.now (W.contents out.old) (W.contents out.new) failure)) }
-    ensures strict { ShowsSamples plan.now.form → plan.now.is_strict ≡ true → OnOk result
-        (IfSome (known_sources plan.now (F.known_input files.old) (F.known_file files.old))
-        (λ sources. has_strict_fault plan.now.options sources ≡ false)) }
-    ensures strict_err { ShowsSamples plan.now.form → plan.now.is_strict ≡ true → IfErr result (λ failure.
-        IfSome (known_sources plan.now (F.known_input files.old) (F.known_file files.old))
-        (λ sources. FailsStrictly (has_strict_fault plan.now.options sources) failure)) }
-    ensures grown { IfOk result (λ is_over.
-        IfSome (known_sources plan.now (F.known_input files.old) (F.known_file files.old))
-        (TellsGrowth is_over plan.now)) }
-    ensures limit { IfOk result (λ is_over. is_over ≡ true → IsSome (limit_of plan.now.view)) }
+    ensures showed { Showed plan.now
+        (known_sources plan.now (F.known_input files.old) (F.known_file files.old))
+        (F.may_have_terminal ≡ false)
+        (change (W.contents out.old) (W.contents out.new) (W.failures out.old) (W.failures out.new))
+        (change (E.contents err.old) (E.contents err.new) (E.failures err.old) (E.failures err.new))
+        (W.is_flushed out.new) result }
     ensures types { OnOk result (plan.now.form ≡ Form.Types
         → IfSome (known_profile plan.now (F.known_file files.old))
         (ShowsTypes (W.contents out.old) (W.contents out.new))) }
     ensures types_err { IfErr result (λ failure. plan.now.form ≡ Form.Types
         → IfSome (known_profile plan.now (F.known_file files.old))
         (FailsTypes (W.contents out.old) (W.contents out.new) failure)) }
-    ensures kept { IfErr result (λ failure.
-        KeepsOutput (W.contents out.old) (W.contents out.new) failure) }
-    ensures says { F.may_have_terminal ≡ false → ShowsSamples plan.now.form → SaidOfSources
-        (E.contents err.old) (E.contents err.new) (E.failures err.old) (E.failures err.new)
-        plan.now (known_sources plan.now (F.known_input files.old) (F.known_file files.old)) result }
     ensures says_types { F.may_have_terminal ≡ false → plan.now.form ≡ Form.Types → SaidOfTypes
         (E.contents err.old) (E.contents err.new) (E.failures err.old) (E.failures err.new)
         plan.now.files (known_profile plan.now (F.known_file files.old)) result }
     ensures many { IsErrOf result Failure.TooManyFiles → 64 < length plan.now.files }
     ensures few { result ≢ Err Failure.TooManyFiles → length plan.now.files ≤ 64 }
     ensures untold_many { IsErrOf result Failure.TooManyFiles → err.new ≡ err.old }
-    ensures flushed { Flushes (W.is_flushed out.new) (W.failures out.old) (W.failures out.new)
-        result }
 {
     match plan.form {
         Form::Types => show_types(host.alloc, plan, files, out, err, words),

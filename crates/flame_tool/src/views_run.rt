@@ -1,7 +1,7 @@
 //! The samples of the sources of a plan, collected and shown.
 ghost use Rattle.std.specs.Prelude.{◌≡◌, ◌≢◌, ◌≤◌, ◌<◌, ℕ, false, IfOk, IfSome, Some, IfErr, IsErrOf, OnOk, is_some, length, map, not, true, IsSome};
 ghost use Rattle.std.specs.List.{list_any};
-ghost use Rattle.command_line.specs.Plans.{IsComparison, limit_of};
+ghost use Rattle.command_line.specs.Plans.{IsComparison};
 ghost use Rattle.ring_collect.specs.Collection.{AreWhole};
 ghost use Rattle.source_lists.specs.Runs.{ReadsLists};
 ghost use Rattle.source_lists.specs.Sources.{asked_rests, known_inputs, whole_weight};
@@ -9,13 +9,11 @@ ghost use Rattle.source_lists.specs.Strictness.{source_fault};
 ghost use Rattle.flame_tool.specs.ToldRuns.{TellsEndings};
 ghost use Rattle.source_lists.specs.Types.{types_of};
 ghost use Rattle.flame_tool.specs.KnownFacts.{known_sources};
-ghost use Rattle.flame_tool.specs.Runs.{Shows, ShowsSamples};
 ghost use Rattle.flame_tool.specs.StrictRuns.{has_strict_fault};
-ghost use Rattle.flame_tool.specs.checked.Failures.{Fails, FailsStrictly, KeepsOutput, TellsGrowth};
-ghost use Rattle.flame_tool.specs.checked.Saying.{SaidOfSources};
+ghost use Rattle.flame_tool.specs.checked.Showed.{Showed};
+ghost use Rattle.flame_tool.specs.KnownRuns.{change};
 ghost use Rattle.opened_sources.specs.Messages.{Tells, message_of_strict_fault, said_of_each};
 ghost use Rattle.flame_tool.specs.checked.Telling.{form_tells, view_tells};
-ghost use Rattle.opened_sources.specs.Failures.{Flushes};
 
 use crate::advice::Advice;
 use crate::hosts::Host;
@@ -45,32 +43,15 @@ pub(crate) fn show_views<T: Threads + Wait + Copy + Send + 'static, F: Files, W:
 ) -> Result<bool, Failure>
     requires pairs { IsComparison plan.now.view → length plan.now.files ≡ 2 }
     requires every { IfSome plan.now.options.every (λ every. 1 ≤ every) }
-    ensures ok { OnOk result
-        (IfSome (known_sources plan.now (F.known_input files.old) (F.known_file files.old))
-        (Shows plan.now (W.contents out.old) (W.contents out.new))) }
-    ensures err { IfErr result (λ failure.
-        IfSome (known_sources plan.now (F.known_input files.old) (F.known_file files.old))
-        (Fails plan.now (W.contents out.old) (W.contents out.new) failure)) }
-    ensures strict { ShowsSamples plan.now.form → plan.now.is_strict ≡ true → OnOk result
-        (IfSome (known_sources plan.now (F.known_input files.old) (F.known_file files.old))
-        (λ sources. has_strict_fault plan.now.options sources ≡ false)) }
-    ensures strict_err { ShowsSamples plan.now.form → plan.now.is_strict ≡ true → IfErr result (λ failure.
-        IfSome (known_sources plan.now (F.known_input files.old) (F.known_file files.old))
-        (λ sources. FailsStrictly (has_strict_fault plan.now.options sources) failure)) }
-    ensures kept { IfErr result (λ failure.
-        KeepsOutput (W.contents out.old) (W.contents out.new) failure) }
-    ensures grown { IfOk result (λ is_over.
-        IfSome (known_sources plan.now (F.known_input files.old) (F.known_file files.old))
-        (TellsGrowth is_over plan.now)) }
-    ensures limit { IfOk result (λ is_over. is_over ≡ true → IsSome (limit_of plan.now.view)) }
-    ensures says { F.may_have_terminal ≡ false → SaidOfSources
-        (E.contents err.old) (E.contents err.new) (E.failures err.old) (E.failures err.new)
-        plan.now (known_sources plan.now (F.known_input files.old) (F.known_file files.old)) result }
+    ensures showed { Showed plan.now
+        (known_sources plan.now (F.known_input files.old) (F.known_file files.old))
+        (F.may_have_terminal ≡ false)
+        (change (W.contents out.old) (W.contents out.new) (W.failures out.old) (W.failures out.new))
+        (change (E.contents err.old) (E.contents err.new) (E.failures err.old) (E.failures err.new))
+        (W.is_flushed out.new) result }
     ensures many { IsErrOf result Failure.TooManyFiles → 64 < length plan.now.files }
     ensures few { result ≢ Err Failure.TooManyFiles → length plan.now.files ≤ 64 }
     ensures untold_many { IsErrOf result Failure.TooManyFiles → err.new ≡ err.old }
-    ensures flushed { Flushes (W.is_flushed out.new) (W.failures out.old) (W.failures out.new)
-        result }
 {
     let tells_types = form_tells(&plan.form, plan.view);
     let inputs = load_sources(
@@ -96,26 +77,11 @@ fn show_sources<T: Threads + Wait + Copy + Send + 'static, W: Outlet, E: Outlet>
     requires few { length inputs.items ≤ 64 }
     requires pairs { IsComparison plan.now.view → length inputs.items ≡ 2 }
     requires every { IfSome plan.now.options.every (λ every. 1 ≤ every) }
-    ensures ok { OnOk result (IfSome (known_inputs inputs.items)
-        (Shows plan.now (W.contents out.old) (W.contents out.new))) }
-    ensures err { IfErr result (λ failure. IfSome (known_inputs inputs.items)
-        (Fails plan.now (W.contents out.old) (W.contents out.new) failure)) }
-    ensures kept { IfErr result (λ failure.
-        KeepsOutput (W.contents out.old) (W.contents out.new) failure) }
-    ensures strict { plan.now.is_strict ≡ true → OnOk result (IfSome (known_inputs inputs.items)
-        (λ sources. has_strict_fault plan.now.options sources ≡ false)) }
-    ensures strict_err { plan.now.is_strict ≡ true → IfErr result (λ failure.
-        IfSome (known_inputs inputs.items)
-        (λ sources. FailsStrictly (has_strict_fault plan.now.options sources) failure)) }
-    ensures grown { IfOk result (λ is_over. IfSome (known_inputs inputs.items)
-        (TellsGrowth is_over plan.now)) }
-    ensures limit { IfOk result (λ is_over. is_over ≡ true → IsSome (limit_of plan.now.view)) }
-    ensures says { advice.entry.is_wanted ≡ false → SaidOfSources
-        (E.contents err.old) (E.contents err.new) (E.failures err.old) (E.failures err.new)
-        plan.now (known_inputs inputs.items) result }
+    ensures showed { Showed plan.now (known_inputs inputs.items) (advice.entry.is_wanted ≡ false)
+        (change (W.contents out.old) (W.contents out.new) (W.failures out.old) (W.failures out.new))
+        (change (E.contents err.old) (E.contents err.new) (E.failures err.old) (E.failures err.new))
+        (W.is_flushed out.new) result }
     ensures few_files { IsErrOf result Failure.TooManyFiles → ⊥ }
-    ensures flushed { Flushes (W.is_flushed out.new) (W.failures out.old) (W.failures out.new)
-        result }
 {
     let alloc = host.alloc;
     // Where several sources can't be read, reading them tells the first.

@@ -33,6 +33,7 @@ returns g c =
     let shown = c.show_plan-shown in
     let result = shown.result in
     let ran = shown.ensures in
+    let showed = ran.showed in
     let old = g.W.Outlet.contents c.args.out.now in
     let new = g.W.Outlet.contents shown.new.out in
     let before = g.W.Outlet.failures c.args.out.now in
@@ -45,42 +46,42 @@ returns g c =
     let unwanted = λ (none : g.F.Files.may_have_terminal ≡ false). c.new-advice.ensures ∙ is_none c.is_error_terminal.result g.F.Files.may_have_terminal c.is_error_terminal.ensures.terminal none in
     let told = λ (none : g.F.Files.may_have_terminal ≡ false). subst (λ (files : List (List ℕ)). IfErr result (λ failure. Tells (message_of_failure files failure) (contents mid) (contents end) (failures mid) (failures end))) c.get.ensures (c.end_run.ensures.told (unwanted none)) in
     let said = λ (none : g.F.Files.may_have_terminal ≡ false) (samples : ShowsSamples plan.form). subst (λ start. EndsOfSources (contents start) (contents end) (failures start) (failures end) plan sources (exit_status result)) (c.await_input.ensures.untold none)
-    (ends_of_sources contents failures plan sources _ mid end result (ran.says none samples) c.end_run.ensures.untold (told none)) in
+    (ends_of_sources contents failures plan sources _ mid end result (showed.says none samples) c.end_run.ensures.untold (told none)) in
     let said_types = λ (none : g.F.Files.may_have_terminal ≡ false) (types : plan.form ≡ form.Types). subst (λ start. EndsOfTypes (contents start) (contents end) (failures start) (failures end) plan.files profile (exit_status result)) (c.await_input.ensures.untold none)
     (ends_of_types contents failures plan.files profile _ mid end result (ran.says_types none types) c.end_run.ensures.untold (told none)) in
-    let grown = of_answer (λ is_over. IfSome sources (TellsGrowth is_over plan)) result ran.grown in
+    let grown = of_answer (λ is_over. IfSome sources (TellsGrowth is_over plan)) result showed.grown in
     subst (λ answer. PlanShows plan (as_files input named g.F.Files.may_have_terminal) answer (change old new before after) (change (contents start) (contents end) (failures start) (failures end)) (g.W.Outlet.is_flushed shown.new.out)) (sym c.end_run.ensures.status) (record {
       status = status_within result;
-      flushed = λ success. flushed_at_success before after result success ran.flushed;
-      unfailed = λ other. unfailed_but_at_three _ before after result other ran.flushed;
-      unwritten = λ one. kept_at old new 1 result (omega arith) (omega arith) one ran.kept;
-      refused = λ two. kept_at old new 2 result (omega arith) (omega arith) two ran.kept;
+      flushed = λ success. flushed_at_success before after result success showed.flushed;
+      unfailed = λ other. unfailed_but_at_three _ before after result other showed.flushed;
+      unwritten = λ one. kept_at old new 1 result (omega arith) (omega arith) one showed.kept;
+      refused = λ two. kept_at old new 2 result (omega arith) (omega arith) two showed.kept;
       many = λ two. many_at_two result two ran.many;
       few = λ other. few_but_at_two result other ran.few;
-      shown = λ success. at_success result success ran.ok;
+      shown = λ success. at_success result success showed.done;
       shown_exactly = λ success as_text is tells. form_exactly plan old new form.Text (λ _ lists. view_text plan.view lists [] None) tt
-          (λ facts lists order. orderless (told_in plan facts lists) lists order plan.options.every plan.view is ∙ plainly (told_in plan facts lists) lists plan.view tells) sources (at_success result success ran.ok) as_text;
+          (λ facts lists order. orderless (told_in plan facts lists) lists order plan.options.every plan.view is ∙ plainly (told_in plan facts lists) lists plan.view tells) sources (at_success result success showed.done) as_text;
       shown_with_facts = λ success as_text is. form_exactly plan old new form.Text (λ facts lists. told_text (told_in plan facts lists) plan.view lists [] None) tt
-          (λ facts lists order. orderless (told_in plan facts lists) lists order plan.options.every plan.view is) sources (at_success result success ran.ok) as_text;
+          (λ facts lists order. orderless (told_in plan facts lists) lists order plan.options.every plan.view is) sources (at_success result success showed.done) as_text;
       shown_page = λ success page as_page is. form_exactly plan old new (form.Page page) (λ facts lists. page_text plan facts page lists [] None) tt
-          (λ facts lists order. sym (orderless_page (asked_heading plan facts page lists) plan.view lists order plan.options.every is)) sources (at_success result success ran.ok) as_page;
-      shown_svg = λ success picture. form_exactly plan old new (form.Picture picture) (λ facts. picture_text plan facts picture) tt (λ facts lists order. refl) sources (at_success result success ran.ok);
-      shown_callers = λ success table. form_exactly plan old new (form.Callers table) (called_text Callers table plan) tt (λ facts lists order. refl) sources (at_success result success ran.ok);
-      shown_callees = λ success table. form_exactly plan old new (form.Callees table) (called_text Callees table plan) tt (λ facts lists order. refl) sources (at_success result success ran.ok);
-      shown_peek = λ success table. form_exactly plan old new (form.Peek table) (peeked_text table plan) tt (λ facts lists order. refl) sources (at_success result success ran.ok);
-      faulty = λ one. faulty_at_one plan sources old new result one ran.err;
-      partly = λ three. front_at_three plan sources old new result three ran.kept ran.err;
-      untouched = λ samples. untouched_at_fault _ plan old new before after samples sources result ran.ok ran.err ran.kept ran.flushed;
-      strict = λ success samples strict. at_success result success (ran.strict samples strict);
-      strict_faulty = λ one samples strict. strict_at_one (has_strict_fault plan.options) sources result one (ran.strict_err samples strict);
-      strict_untouched = λ samples strict. strict_untouched (has_strict_fault plan.options) sources _ old new before after result (ran.strict samples strict) (ran.strict_err samples strict) ran.kept ran.flushed;
-      limit = λ four. (of_answer (λ is_over. is_over ≡ true → IsSome (limit_of plan.view)) result ran.limit).1 four refl;
+          (λ facts lists order. sym (orderless_page (asked_heading plan facts page lists) plan.view lists order plan.options.every is)) sources (at_success result success showed.done) as_page;
+      shown_svg = λ success picture. form_exactly plan old new (form.Picture picture) (λ facts. picture_text plan facts picture) tt (λ facts lists order. refl) sources (at_success result success showed.done);
+      shown_callers = λ success table. form_exactly plan old new (form.Callers table) (called_text Callers table plan) tt (λ facts lists order. refl) sources (at_success result success showed.done);
+      shown_callees = λ success table. form_exactly plan old new (form.Callees table) (called_text Callees table plan) tt (λ facts lists order. refl) sources (at_success result success showed.done);
+      shown_peek = λ success table. form_exactly plan old new (form.Peek table) (peeked_text table plan) tt (λ facts lists order. refl) sources (at_success result success showed.done);
+      faulty = λ one. faulty_at_one plan sources old new result one showed.failed;
+      partly = λ three. front_at_three plan sources old new result three showed.kept showed.failed;
+      untouched = λ samples. untouched_at_fault _ plan old new before after samples sources result showed.done showed.failed showed.kept showed.flushed;
+      strict = λ success samples strict. at_success result success (showed.strict samples strict);
+      strict_faulty = λ one samples strict. strict_at_one (has_strict_fault plan.options) sources result one (showed.strict_failed samples strict);
+      strict_untouched = λ samples strict. strict_untouched (has_strict_fault plan.options) sources _ old new before after result (showed.strict samples strict) (showed.strict_failed samples strict) showed.kept showed.flushed;
+      limit = λ four. (of_answer (λ is_over. is_over ≡ true → IsSome (limit_of plan.view)) result showed.limit).1 four refl;
       grown = grown.1;
       not_grown = grown.0;
       types = λ success. at_success result success ran.types;
       types_faulty = λ one. types_faulty_at_one _ profile old new result one ran.types_err;
-      types_partly = λ three. types_front_at_three _ profile old new result three ran.kept ran.types_err;
-      types_untouched = untouched_at_table_fault _ old new before after _ profile result ran.types ran.types_err ran.kept ran.flushed;
+      types_partly = λ three. types_front_at_three _ profile old new result three showed.kept ran.types_err;
+      types_untouched = untouched_at_table_fault _ old new before after _ profile result ran.types ran.types_err showed.kept showed.flushed;
       told = λ none low samples. (said none samples).low low;
       told_grown = λ none four samples. (said none samples).grown four;
       told_types = λ none zero types. (said_types none types).shown zero;
