@@ -1,5 +1,5 @@
 -- What was told of the sources of a run, up to its end.
-use Rattle.std.proofs.Common.{◌≡◌, ◌⊎◌, ◌∙◌, ◌++◌, inl, inr, ℕ, Bool, true, false, List, [], Option, Some, Result, Ok, Err, IfOk, IfErr, IfSome, OnOk, ap, append-nil, arith, map, refl, subst, sym}
+use Rattle.std.proofs.Common.{◌≡◌, ◌≤◌, ◌⊎◌, ◌∙◌, ◌++◌, inl, inr, ℕ, Bool, true, false, List, [], Option, Some, Result, Ok, Err, IfOk, IfErr, IfSome, OnOk, ap, append-nil, arith, map, refl, subst, sym}
 use Rattle.std.specs.Prelude.{IsErrAnd, if◌then◌else◌}
 use Rattle.std.proofs.lemmas.Option.{IfSome_then}
 use Rattle.stack_core.specs.Ledgers.{ListState}
@@ -19,11 +19,26 @@ use Rattle.opened_sources.specs.declared.failures.Failure.{Failure}
 use Rattle.opened_sources.specs.declared.failures.Failure.TheVariants.{TooManyFiles, Unreadable, TooLarge, OutOfMemory, NoThread, Unfinished, Faults, Output}
 use Rattle.opened_sources.proofs.MessageTexts.{tells_more, tells_nothing}
 use Rattle.flame_tool.specs.Runs.{ShowsSamples}
-use Rattle.flame_tool.specs.ToldRuns.{TellsEndings, TellsFailure, TellsGrown, TellsSources, said_of_growth, said_of_sources}
+use Rattle.flame_tool.specs.ToldRuns.{TellsProfile, TellsFailure, TellsGrown, TellsSources, said_of_growth, said_of_sources}
 use Rattle.flame_tool.specs.checked.Failures.{exit_status}
-use Rattle.flame_tool.specs.checked.Saying.{EndsOfSources, EndsOfTypes, SaidBefore, SaidOfSources, SaidOfTypes}
+use Rattle.flame_tool.specs.checked.Saying.{TellsEndings, SaidBefore, SaidOfSources, SaidOfTypes}
 use Rattle.flame_tool.proofs.KnownSources.{at_known, if_known}
 use Rattle.flame_tool.proofs.ToldEndings.{told_of_read}
+
+-- ---- at the end
+
+-- what is told at the end of a run that shows samples, by its exit status
+pub record EndsOfSources (old new : Option (List ℕ)) (before after : ℕ) (plan : Plan) (known : Option (List (Format × List ℕ))) (status : ℕ) : Type 0 where
+  pub low : status ≤ 1 → IfSome known (TellsSources plan old new before after)
+  pub grown : status ≡ 4 → IfSome known (TellsGrown plan old new before after)
+  pub failed : status ≡ 3 → TellsFailure plan.files [] old new before after
+      ⊎ IfSome known (λ sources. TellsFailure plan.files (said_of_sources plan sources) old new before after)
+
+-- the same of a run that shows sample types
+pub record EndsOfTypes (old new : Option (List ℕ)) (before after : ℕ) (files : List (List ℕ)) (known : Option (List ℕ)) (status : ℕ) : Type 0 where
+  pub shown : status ≡ 0 → Tells [] old new before after
+  pub faulty : status ≡ 1 → IfSome known (TellsProfile files old new before after)
+  pub failed : status ≡ 3 → TellsFailure files [] old new before after
 
 -- ---- before a failure
 

@@ -5,7 +5,7 @@ use Rattle.std.specs.Prelude.{Bool}
 use Rattle.stack_core.specs.Ledgers.{ListState}
 use Rattle.run_options.specs.declared.formats.Format.{Format}
 use Rattle.command_line.specs.declared.plans.Plan.{Plan}
-use Rattle.opened_sources.specs.Failures.{Flushes, IsOpening, has_fault, status_of}
+use Rattle.opened_sources.specs.Failures.{Flushes, has_fault, status_of}
 use Rattle.opened_sources.specs.declared.failures.Failure.{Failure}
 use Rattle.opened_sources.specs.declared.failures.Failure.TheVariants.{TooManyFiles, Unreadable, TooLarge, OutOfMemory, NoThread, Unfinished, Faults, Output}
 use Rattle.flame_tool.specs.Runs.{FailsUntouched}
@@ -14,17 +14,6 @@ use Rattle.flame_tool.specs.checked.Failures.{FailsStrictly, FailsToShow, KeepsO
 use Rattle.flame_tool.proofs.ExitStatuses.{not_zero}
 
 -- ---- a failed run
-
--- nothing was collected
-pub unopened : (count : ℕ) (faulty : Bool) (failure : Failure) → IsOpening count failure → FailsStrictly faulty failure
-unopened count faulty TooManyFiles opening = tt
-unopened count faulty (Unreadable source) opening = tt
-unopened count faulty (TooLarge source) opening = tt
-unopened count faulty OutOfMemory opening = tt
-unopened count faulty NoThread opening = tt
-unopened count faulty (Unfinished source) opening = tt
-unopened count faulty Faults opening = absurd opening
-unopened count faulty (Output fault) opening = absurd opening
 
 -- the lists have no fault
 pub unsent : (lists : List ListState) (text : List ℕ) (old new : Option (List ℕ)) (faulty : Bool) → faulty ≡ false → has_fault lists ≡ false → (failure : Failure) → FailsToShow lists text old new failure → FailsStrictly faulty failure

@@ -10,7 +10,7 @@ use Rattle.ring_collect.specs.Collection.{AreWhole, seen_as_rest}
 use Rattle.source_lists.specs.Sources.{asked_rests}
 use Rattle.opened_sources.specs.Messages.{said_of_each}
 use Rattle.opened_sources.proofs.MessageTexts.{said_of_more, said_of_seen}
-use Rattle.flame_tool.specs.ToldRuns.{TellsEndings}
+use Rattle.flame_tool.specs.checked.Saying.{TellsEndings}
 
 -- the endings of lists are those of what was read
 endings_seen : (rests : List Rest) (lists : List ListState) → map seen_as_rest lists ≡ rests → map (λ list. list.ending) lists ≡ map (λ rest. rest.ending) rests

@@ -3,6 +3,7 @@ use Rattle.std.specs.Prelude.{◌≡◌, ◌≢◌, ◌≤◌, ◌<◌, ◌⊎�
 use Rattle.std.specs.Io.KnownBytes.{Appends, Keeps}
 use Rattle.std.specs.List.{list_any}
 use Rattle.clap.specs.Walk.{Text}
+use Rattle.byte_io.specs.Pieces.{AppendsFront}
 use Rattle.folded_lines.specs.Reading.{read_folded}
 use Rattle.run_options.specs.declared.formats.Format.{Format}
 use Rattle.sample_tables.specs.declared.samples.Sample.{Sample}
@@ -165,7 +166,8 @@ RefusalShows (fault.Words text) answer out err is_flushed =
     × Tells (string_bytes text) err.held_before err.held_after err.failed_before err.failed_after
 RefusalShows (fault.Help text) answer out err is_flushed =
     ((answer ≡ 0) × is_flushed × (out.failed_after ≡ out.failed_before) × Appends out.held_before out.held_after (string_bytes text))
-    ⊎ ((answer ≡ 3) × TellsFailure [] [] err.held_before err.held_after err.failed_before err.failed_after)
+    ⊎ ((answer ≡ 3) × AppendsFront (string_bytes text) out.held_before out.held_after
+    × TellsFailure [] [] err.held_before err.held_after err.failed_before err.failed_after)
 RefusalShows fault.OutOfMemory answer out err is_flushed =
     (answer ≡ 3) × FailsUntouched answer out.held_before out.held_after out.failed_before out.failed_after
     × TellsFailure [] [] err.held_before err.held_after err.failed_before err.failed_after

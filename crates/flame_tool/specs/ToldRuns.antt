@@ -1,6 +1,5 @@
 -- What a run says on standard error of its words and of its sources.
 use Rattle.std.specs.Prelude.{◌≡◌, ◌++◌, ℕ, List, [], Option, None, Some, if◌then◌else◌, map}
-use Rattle.stack_core.specs.declared.endings.SourceEnd.{SourceEnd}
 use Rattle.stack_core.specs.declared.endings.SourceEnd.TheVariants as ends
 use Rattle.run_options.specs.declared.formats.Format.{Format}
 use Rattle.command_line.specs.declared.plans.Plan.{Plan}
@@ -14,11 +13,6 @@ use Rattle.flame_tool.specs.Runs.{wanted_lists}
 use Rattle.flame_tool.specs.TypeRuns.{table_fault}
 
 -- ---- of the sources
-
--- the message of each ending was told, in order, and nothing else
-abbrev pub TellsEndings : List (List ℕ) → Option (List ℕ) → Option (List ℕ) → ℕ → ℕ → List SourceEnd → Type 0
-TellsEndings files old new before after endings =
-    Tells (said_of_each (message_of_ending files) 0 endings) old new before after
 
 -- what there is to say of sources whose samples are shown: how each ended, or, where the plan is strict, what is wrong with each
 abbrev pub said_of_sources : Plan → List (Format × List ℕ) → List ℕ

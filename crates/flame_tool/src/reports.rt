@@ -2,7 +2,7 @@
 
 ghost use Rattle.std.specs.Prelude.{◌≡◌, ◌==◌, false, length, map, not, string_bytes};
 ghost use Rattle.opened_sources.specs.Messages.{Tells, message_of_strict_fault, said_of_each};
-ghost use Rattle.flame_tool.specs.ToldRuns.{TellsEndings};
+ghost use Rattle.flame_tool.specs.checked.Saying.{TellsEndings};
 
 use crate::advice::Advice;
 use crate::next_steps::Trouble;

@@ -6,7 +6,7 @@ ghost use Rattle.ring_collect.specs.Collection.{AreWhole};
 ghost use Rattle.source_lists.specs.Runs.{ReadsLists};
 ghost use Rattle.source_lists.specs.Sources.{asked_rests, known_inputs, whole_weight};
 ghost use Rattle.source_lists.specs.Strictness.{source_fault};
-ghost use Rattle.flame_tool.specs.ToldRuns.{TellsEndings};
+ghost use Rattle.flame_tool.specs.checked.Saying.{TellsEndings};
 ghost use Rattle.source_lists.specs.Types.{types_of};
 ghost use Rattle.flame_tool.specs.KnownFacts.{known_sources};
 ghost use Rattle.flame_tool.specs.StrictRuns.{has_strict_fault};

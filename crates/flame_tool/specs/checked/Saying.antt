@@ -1,11 +1,17 @@
--- What was told on standard error before a run ended, and what is told at its end.
-use Rattle.std.specs.Prelude.{◌≡◌, ◌≤◌, ◌⊎◌, ℕ, Bool, true, false, List, [], Option, IfSome, Result, Ok, Err}
+-- What was told on standard error before a run ended.
+use Rattle.std.specs.Prelude.{◌⊎◌, ℕ, Bool, true, false, List, [], Option, IfSome, Result, Ok, Err}
 use Rattle.run_options.specs.declared.formats.Format.{Format}
 use Rattle.command_line.specs.declared.plans.Plan.{Plan}
-use Rattle.opened_sources.specs.Messages.{Tells}
+use Rattle.stack_core.specs.declared.endings.SourceEnd.{SourceEnd}
+use Rattle.opened_sources.specs.Messages.{Tells, message_of_ending, said_of_each}
 use Rattle.opened_sources.specs.declared.failures.Failure.{Failure}
 use Rattle.opened_sources.specs.declared.failures.Failure.TheVariants.{TooManyFiles, Unreadable, TooLarge, OutOfMemory, NoThread, Unfinished, Faults, Output}
-use Rattle.flame_tool.specs.ToldRuns.{TellsFailure, TellsGrown, TellsProfile, TellsSources, said_of_sources}
+use Rattle.flame_tool.specs.ToldRuns.{TellsGrown, TellsProfile, TellsSources}
+
+-- the message of each ending was told, in order, and nothing else
+abbrev pub TellsEndings : List (List ℕ) → Option (List ℕ) → Option (List ℕ) → ℕ → ℕ → List SourceEnd → Type 0
+TellsEndings files old new before after endings =
+    Tells (said_of_each (message_of_ending files) 0 endings) old new before after
 
 -- before a failure: all of a fault, and of other failures nothing or all
 abbrev pub SaidBefore : Type 0 → Type 0 → Failure → Type 0
@@ -36,16 +42,3 @@ SaidOfTypes old new before after files known (Err NoThread) = Tells [] old new b
 SaidOfTypes old new before after files known (Err (Unfinished source)) = Tells [] old new before after
 SaidOfTypes old new before after files known (Err Faults) = IfSome known (TellsProfile files old new before after)
 SaidOfTypes old new before after files known (Err (Output fault)) = Tells [] old new before after
-
--- what is told at the end of a run that shows samples, by its exit status
-pub record EndsOfSources (old new : Option (List ℕ)) (before after : ℕ) (plan : Plan) (known : Option (List (Format × List ℕ))) (status : ℕ) : Type 0 where
-  pub low : status ≤ 1 → IfSome known (TellsSources plan old new before after)
-  pub grown : status ≡ 4 → IfSome known (TellsGrown plan old new before after)
-  pub failed : status ≡ 3 → TellsFailure plan.files [] old new before after
-      ⊎ IfSome known (λ sources. TellsFailure plan.files (said_of_sources plan sources) old new before after)
-
--- the same of a run that shows sample types
-pub record EndsOfTypes (old new : Option (List ℕ)) (before after : ℕ) (files : List (List ℕ)) (known : Option (List ℕ)) (status : ℕ) : Type 0 where
-  pub shown : status ≡ 0 → Tells [] old new before after
-  pub faulty : status ≡ 1 → IfSome known (TellsProfile files old new before after)
-  pub failed : status ≡ 3 → TellsFailure files [] old new before after

@@ -19,7 +19,7 @@ returns-in-Help g c =
     let failed = c.report_failure.new.err in
     let out = change (g.W.Outlet.contents c.args.out.now) (g.W.Outlet.contents c.send-in-Help.new.out) (g.W.Outlet.failures c.args.out.now) (g.W.Outlet.failures c.send-in-Help.new.out) in
     let err = change (g.E.Outlet.contents c.args.err.now) (g.E.Outlet.contents failed) (g.E.Outlet.failures c.args.err.now) (g.E.Outlet.failures failed) in
-    subst (λ fault. RefusalShows fault 3 out err (g.W.Outlet.is_flushed c.send-in-Help.new.out)) (sym c.in-Help.is) (inr (refl, search rules))
+    subst (λ fault. RefusalShows fault 3 out err (g.W.Outlet.is_flushed c.send-in-Help.new.out)) (sym c.in-Help.is) (inr (refl, (c.in-Err.field-0.written, search rules), search rules))
 
 pub returns : goal.returns
 returns g c =

@@ -14,10 +14,9 @@ use Rattle.flame_tool.specs.Runs.{ShowsSamples}
 use Rattle.flame_tool.specs.StrictRuns.{has_strict_fault}
 use Rattle.flame_tool.specs.TypeRuns.{known_profile}
 use Rattle.flame_tool.specs.checked.Failures.{TellsGrowth, exit_status}
-use Rattle.flame_tool.specs.checked.Saying.{EndsOfSources, EndsOfTypes}
 use Rattle.flame_tool.proofs.ExitStatuses.{at_success, faulty_at_one, few_but_at_two, flushed_at_success, front_at_three, kept_at, many_at_two, of_answer, status_within, types_faulty_at_one, types_front_at_three, unfailed_but_at_three}
 use Rattle.flame_tool.proofs.RunEndings.{form_exactly, orderless, plainly}
-use Rattle.flame_tool.proofs.SaidSources.{ends_of_sources, ends_of_types, failure_told}
+use Rattle.flame_tool.proofs.SaidSources.{EndsOfSources, EndsOfTypes, ends_of_sources, ends_of_types, failure_told}
 use Rattle.flame_tool.proofs.StrictEndings.{strict_at_one, strict_untouched}
 use Rattle.flame_tool.proofs.ToldEndings.{is_none}
 use Rattle.flame_tool.proofs.UntouchedOutputs.{untouched_at_fault, untouched_at_table_fault}

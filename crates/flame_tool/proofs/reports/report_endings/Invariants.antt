@@ -1,6 +1,6 @@
 -- The endings so far were told.
 use Rattle.std.proofs.Common.{◌≡◌, ◌≤◌, ◌-◌, false, length, map, take, string_bytes}
-use Rattle.flame_tool.specs.ToldRuns.{TellsEndings}
+use Rattle.flame_tool.specs.checked.Saying.{TellsEndings}
 use Rattle.flame_tool.proofs.reports.report_endings.Given as goal
 
 abbrev pub invariant-loop-source : goal.invariant-loop-source
