@@ -108,9 +108,12 @@ pub record PlanShows (plan : Plan) (files : KnownFiles) (answer : ℕ) (out err 
   pub shown_svg : Succeeds answer → (picture : PictureForm) → plan.form ≡ form.Picture picture →
       IfSources plan files (GainsText plan out (λ facts. picture_text plan facts picture))
   -- nor of the callers of a function, of its callees, and of both
-  pub shown_callers : Succeeds answer → (table : CallTable) → plan.form ≡ form.Callers table → IfSources plan files (GainsText plan out (called_text Callers table plan))
-  pub shown_callees : Succeeds answer → (table : CallTable) → plan.form ≡ form.Callees table → IfSources plan files (GainsText plan out (called_text Callees table plan))
-  pub shown_peek : Succeeds answer → (table : CallTable) → plan.form ≡ form.Peek table → IfSources plan files (GainsText plan out (peeked_text table plan))
+  pub shown_callers : Succeeds answer → (table : CallTable) → plan.form ≡ form.Callers table →
+      IfSources plan files (GainsText plan out (called_text Callers table plan))
+  pub shown_callees : Succeeds answer → (table : CallTable) → plan.form ≡ form.Callees table →
+      IfSources plan files (GainsText plan out (called_text Callees table plan))
+  pub shown_peek : Succeeds answer → (table : CallTable) → plan.form ≡ form.Peek table →
+      IfSources plan files (GainsText plan out (peeked_text table plan))
   pub faulty : answer ≡ 1 → IfSources plan files (HasPlainFault plan)
   -- 3 leaves nothing or a part of the text from its front
   pub partly : answer ≡ 3 → Keeps out.held_before out.held_after
@@ -158,8 +161,8 @@ pub record PlanShows (plan : Plan) (files : KnownFiles) (answer : ℕ) (out err 
       ⊎ (ShowsSamples plan.form × IfSources plan files (λ sources.
       TellsFailure plan.files (said_of_sources plan sources) err.held_before err.held_after err.failed_before err.failed_after))
 
--- what is promised of a run that this fault of its words ended: refused words are told, a text that is asked for goes out, and without memory
--- nothing is written
+-- what is promised of a run that this fault of its words ended: refused words are told, a text that is asked for goes out, or a front of it,
+-- and without memory nothing is written
 abbrev pub RefusalShows : PlanFault → ℕ → Change → Change → Type 0 → Type 0
 RefusalShows (fault.Words text) answer out err is_flushed =
     (answer ≡ 2) × FailsUntouched answer out.held_before out.held_after out.failed_before out.failed_after
