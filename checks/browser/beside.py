@@ -22,10 +22,13 @@ def beside(check):
     picture = shown_beside(check)
     same(fragment(browser), '#beside=1', 'fragment')
     same(browser.value("document.getElementById('lanes').hidden"), True, 'the sources one after another')
-    same([picture.name(row, 0.01) for row in (0, 1, 4, 5, 8)], ['parse.folded', 'main', 'faster.folded', 'main', None], 'roots, and what stands on them')
-    same([[round(edge * 57 / picture.width) for edge in picture.runs(row)[-1][:2]] for row in (1, 5)], [[0, 57], [0, 38]], 'how far they go')
+    same([picture.name(row, 0.01) for row in (0, 1, 4, 5, 8)], ['parse.folded', 'main', 'faster.folded', 'main', None],
+         'roots, and what stands on them')
+    same([[round(edge * 57 / picture.width) for edge in picture.runs(row)[-1][:2]] for row in (1, 5)], [[0, 57], [0, 38]],
+         'how far they go')
     wanted = [(0, 11), (11, 23), (26, 34), (34, 38)]
-    same([(round(left * 57 / picture.width), round(right * 57 / picture.width)) for left, right, _ in picture.runs(7)], wanted, 'boxes of the second')
+    same([(round(left * 57 / picture.width), round(right * 57 / picture.width)) for left, right, _ in picture.runs(7)], wanted,
+         'boxes of the second')
     same(picture.told(4, 0.1), ['faster.folded', '38, 40% of the whole', 'own 0', 'from 0 to 38, in faster.folded'], 'tip of a source')
     same(picture.told(6, 0.1), ['parse', '23, 24.2% of the whole', 'own 0', 'from 0 to 23, in faster.folded'], 'tip of a box')
     for number, left in browser.value(TICKS):
@@ -41,20 +44,24 @@ def beside_zoomed(check):
     picture.click(6, 10 / 57)
     same(fragment(browser), '#zoom=main/parse&start=57&beside=1', 'a box')
     same(browser.text('#functions-title'), 'Functions in this box', 'what the table is of')
-    same(table(browser), [['tokenize', '12', '52.2%', '12', '52.2%'], ['read', '11', '47.8%', '11', '47.8%'], ['parse', '0', '0%', '23', '100%']], 'table')
+    same(table(browser), [['tokenize', '12', '52.2%', '12', '52.2%'], ['read', '11', '47.8%', '11', '47.8%'],
+                          ['parse', '0', '0%', '23', '100%']], 'table')
     same(picture.told(7, 0.9)[1], '12, 12.6% of the whole, 52.2% of what is zoomed', 'tip in the box')
     same(picture.told(2, 0.5)[1], '43, 45.3% of the whole', 'tip in the other source')
     browser.click_on('#beside')
-    same([fragment(browser), Picture(browser).told(2, 0.5)[3]], ['#zoom=main/parse&start=57', 'from 57 to 80, in faster.folded'], 'the same one after another')
+    same([fragment(browser), Picture(browser).told(2, 0.5)[3]], ['#zoom=main/parse&start=57', 'from 57 to 80, in faster.folded'],
+         'the same one after another')
     browser.click_on('#beside')
     same(fragment(browser), '#zoom=main/parse&start=57&beside=1', 'and side by side again')
     picture.click(4, 0.5)
-    same([fragment(browser), browser.text('#functions-title')], ['#source=1&beside=1', 'Functions in faster.folded'], 'the root of a source')
+    same([fragment(browser), browser.text('#functions-title')], ['#source=1&beside=1', 'Functions in faster.folded'],
+         'the root of a source')
     contains(table(browser), ['read', '19', '50%', '19', '50%'], 'a function of the source')
     picture.click(4, 0.5)
     same(fragment(browser), '#beside=1', 'the root again')
     browser.value("document.getElementById('picture').focus()")
-    for key, wanted in (('ArrowRight', 'faster.folded'), ('ArrowDown', 'main'), ('ArrowUp', 'faster.folded'), ('Home', 'parse.folded'), ('End', 'faster.folded')):
+    for key, wanted in (('ArrowRight', 'faster.folded'), ('ArrowDown', 'main'), ('ArrowUp', 'faster.folded'), ('Home', 'parse.folded'),
+                        ('End', 'faster.folded')):
         browser.press(key)
         same(picture.focused(), wanted, f'focus after {key}')
     browser.press('Enter')
@@ -91,7 +98,8 @@ def beside_saved(check):
     picture = shown_beside(check)
     svg = xml.etree.ElementTree.fromstring(saved(check, 'svg'))
     same([float(svg.get('width')), float(svg.get('height'))], [picture.width, 8 * ROW + 16], 'size')
-    same([title for title in titles(svg) if '.folded' in title], ['parse.folded · 57, 60% of the whole', 'faster.folded · 38, 40% of the whole'], 'titles of roots')
+    same([title for title in titles(svg) if '.folded' in title],
+         ['parse.folded · 57, 60% of the whole', 'faster.folded · 38, 40% of the whole'], 'titles of roots')
     texts = [text.text for text in svg.iter(f'{SVG}text')]
     contains(texts, 'parse.folded', 'a name')
     contains(texts, 'faster.folded', 'the other name')
@@ -102,7 +110,8 @@ def beside_saved(check):
     png = saved(check, 'png')
     same(int.from_bytes(png[20:24], 'big'), 2 * (4 * ROW + 16), 'height of the PNG')
     browser.value("window.dispatchEvent(new Event('beforeprint'))")
-    contains(browser.value("[...document.querySelectorAll('#paper svg text')].map((text) => text.textContent)"), 'faster.folded', 'the name on paper')
+    contains(browser.value("[...document.querySelectorAll('#paper svg text')].map((text) => text.textContent)"), 'faster.folded',
+             'the name on paper')
 
 
 def colours_by_package(check):

@@ -17,9 +17,12 @@ def callers(check):
     browser.click_on(f'#functions tbody tr:nth-child({place}) button')
     same([fragment(browser), browser.text('#drawing-name')], ['#callers=walk', 'callers and callees of walk'], 'after a click in the table')
     # Of 14 samples 12 have walk: 8 come from main, 4 from work. Of them 5 go on to walk and leaf, 3 to other, and 4 end.
-    shown = [(0, 0.6, 'main', '8, 57.1% of the whole, 66.7% of walk', None), (0, 0.9, 'work', '4, 28.6% of the whole, 33.3% of walk', None),
-             (1, 0.5, 'walk', '12, 85.7% of the whole, 100% of walk', 'own 4'), (2, 0.4, 'walk', '5, 35.7% of the whole, 41.7% of walk', 'own 0'),
-             (2, 0.6, 'other', '3, 21.4% of the whole, 25% of walk', 'own 3'), (3, 0.4, 'leaf', '5, 35.7% of the whole, 41.7% of walk', 'own 5')]
+    shown = [(0, 0.6, 'main', '8, 57.1% of the whole, 66.7% of walk', None),
+             (0, 0.9, 'work', '4, 28.6% of the whole, 33.3% of walk', None),
+             (1, 0.5, 'walk', '12, 85.7% of the whole, 100% of walk', 'own 4'),
+             (2, 0.4, 'walk', '5, 35.7% of the whole, 41.7% of walk', 'own 0'),
+             (2, 0.6, 'other', '3, 21.4% of the whole, 25% of walk', 'own 3'),
+             (3, 0.4, 'leaf', '5, 35.7% of the whole, 41.7% of walk', 'own 5')]
     for row, part, *wanted in shown:
         same(picture.told(row, part), [text for text in wanted if text], f'tip in row {row} at {part}')
     same([picture.name(2, 0.9), picture.name(4, 0.1)], [None, None], 'beside what it calls')

@@ -44,7 +44,8 @@ def apt_get(words):
     patience = ['-o', 'Acquire::Retries=3', '-o', 'Acquire::http::Timeout=20', '-o', 'DPkg::Lock::Timeout=120']
     quiet = {**os.environ, 'DEBIAN_FRONTEND': 'noninteractive'}
     try:
-        subprocess.run(['apt-get', '-q', *patience, *words], stdin=subprocess.DEVNULL, stdout=sys.stderr, env=quiet, check=False, timeout=600)
+        subprocess.run(['apt-get', '-q', *patience, *words], stdin=subprocess.DEVNULL, stdout=sys.stderr, env=quiet, check=False,
+                       timeout=600)
     except subprocess.TimeoutExpired as fault:
         print(fault, file=sys.stderr)
 

@@ -19,7 +19,8 @@ from painted_layout import Fault
 from painted_looks import Setting, Watched
 from painted_pages import PAGES
 
-# The windows in which the picture is 368, 588, 1182 and 1912 pixels wide; in a comparison, whose lists are wider, it is narrower in the last two.
+# The windows in which the picture is 368, 588, 1182 and 1912 pixels wide; in a comparison, whose lists are wider, it is narrower in the
+# last two.
 WINDOWS = (390, 610, 1663, 2560)
 ZOOMS, SEARCHES, TIPS, CALLERS = 10, 3, 30, 2
 MOST_TOLD = 5
@@ -62,7 +63,8 @@ def zooms(drawn: random.Random, watched: Watched) -> Iterator[list[Fault]]:
     """Looks at ten parts: most by their address, some by a click, in a chart some sources, and in a comparison every other by shares."""
     document = watched.document
     for number in range(ZOOMS):
-        view = View(drawn.randrange(len(document.drawings)), below=watched.setting.below, share=document.kind == 'compare' and number % 2 == 0)
+        view = View(drawn.randrange(len(document.drawings)), below=watched.setting.below,
+                    share=document.kind == 'compare' and number % 2 == 0)
         if document.drawing(view).count == 0:
             continue
         if document.kind == 'chart' and number % 3 == 0:

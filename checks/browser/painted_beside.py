@@ -43,7 +43,8 @@ class Beside(Drawing):
     def rows_within(self, span: Span) -> tuple[int, int]:
         """Of a source in which something is zoomed its own rows."""
         band = self.band(span.row)
-        rows = [row for row in range(len(self.rows)) if any(True for _ in self.within(row, span)) and (band is None or self.band(row) == band)]
+        rows = [row for row in range(len(self.rows))
+                if any(True for _ in self.within(row, span)) and (band is None or self.band(row) == band)]
         return (rows[0], rows[-1] + 1) if rows else (0, 0)
 
     def span_of(self, source: int, part: tuple[float, float] | None, box: int) -> Span:

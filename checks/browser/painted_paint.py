@@ -54,7 +54,8 @@ def of_canvas(record: dict[str, Any]) -> Paint:
     colours = [colour(text) for text in record['colours']]
     numbers = record['rectangles']
     rectangles = [
-        Rectangle(numbers[at] / scale, numbers[at + 1] / scale, numbers[at + 2] / scale, numbers[at + 3] / scale, colours[numbers[at + 4]], None)
+        Rectangle(numbers[at] / scale, numbers[at + 1] / scale, numbers[at + 2] / scale, numbers[at + 3] / scale,
+                  colours[numbers[at + 4]], None)
         for at in range(0, len(numbers), 5)]
     texts = [Text(each['text'], each['left'] / scale, each['middle'] / scale, each['width'] / scale, colour(each['ink']), each['after'])
              for each in record['texts']]
@@ -80,7 +81,8 @@ def of_svg(text: str) -> Paint:
     for element in root.iter():
         if element.tag == f'{SVG}rect':
             sides = [float(element.get(side, '0')) for side in ('x', 'y', 'width', 'height')]
-            rectangles.append(Rectangle(sides[0], sides[1], sides[2], sides[3], colour(element.get('fill', '')), title_of(element, parents)))
+            rectangles.append(Rectangle(sides[0], sides[1], sides[2], sides[3], colour(element.get('fill', '')),
+                                        title_of(element, parents)))
         elif element.tag == f'{SVG}text':
             left, baseline = float(element.get('x', '0')), float(element.get('y', '0'))
             texts.append(Text(element.text or '', left, baseline - BASELINE, None, colour(element.get('fill', '')), len(rectangles)))

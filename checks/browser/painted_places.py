@@ -63,7 +63,8 @@ class Sight:
         self.span: Span = document.span(view)
         self.matching = matches_of(document, view)
         self.of_names: dict[int, Colour] = {}
-        self.dim, self.match, self.joined, self.joined_match = map(colour, (palette.dim, palette.match, palette.joined, palette.joined_match))
+        self.dim, self.match, self.joined, self.joined_match = map(
+            colour, (palette.dim, palette.match, palette.joined, palette.joined_match))
 
     def is_match(self, box: int) -> bool:
         return self.matching is not None and self.drawing.is_function(box) and self.drawing.name[box] in self.matching

@@ -10,8 +10,8 @@ from painted_layout import TOUCH, Fault, Ordered, Strip
 from painted_paint import Paint, Rectangle
 from painted_places import DOUBT, WIDE, Place, Sight
 
-# How far an edge may be off: of boxes that are wide, with the line of paper behind them; and of narrower ones, which are painted wide enough to
-# be seen, and beside one another.
+# How far an edge may be off: of boxes that are wide, with the line of paper behind them; and of narrower ones, which are painted wide
+# enough to be seen, and beside one another.
 OFF, NARROW_OFF = 1 + DOUBT, 0.5 + TOUCH
 
 # What is narrower may have no room between its neighbours. Then its pixels are still painted.
@@ -67,7 +67,8 @@ class Row:
 
     def explain(self, place: Place) -> None:
         """Beside what is in doubt there may be more than one narrow rectangle."""
-        self.explained.update((order, place) for order, rectangle in self.about(place) if rectangle.width < WIDE and has_colour(rectangle, place))
+        self.explained.update((order, place) for order, rectangle in self.about(place)
+                              if rectangle.width < WIDE and has_colour(rectangle, place))
 
     def painted(self, place: Place) -> Ordered | None:
         """The rectangle that stands for a place: the last painted over its middle. What is narrow may be painted beside its middle, for want of

@@ -22,8 +22,8 @@ WIDTHS = (368, 1182)
 # The window has room for each picture: what is outside of it is seen nowhere.
 WINDOW = (1200, 1200)
 INK = (0, 0, 0)
-# What the browser made of the picture: the groups in order, what stands beside them, and how many elements of each kind there are. `isOnTop`
-# says whether the rectangle of a group, or a text of the same group, is what is seen in its middle.
+# What the browser made of the picture: the groups in order, what stands beside them, and how many elements of each kind there are.
+# `isOnTop` says whether the rectangle of a group, or a text of the same group, is what is seen in its middle.
 LAID_OUT = '''(() => {
     const round = (number) => Math.round(number * 1000) / 1000;
     const shown = (element) => {
@@ -175,8 +175,8 @@ def further(much: int) -> Callable[[re.Match[str]], str]:
     return lambda number: str(int(number[0]) + much)
 
 
-# Faults that are put into the text of a picture: what is wrong, the letter by which it is found, and how the text is changed in which that is the
-# line of a box.
+# Faults that are put into the text of a picture: what is wrong, the letter by which it is found, and how the text is changed in which
+# that is the line of a box.
 FAULTS: list[tuple[str, str, Callable[[str, str], str]]] = [
     ('a box is a pixel further right', 'a', in_box('(?<=<rect x=")[0-9]+', further(1))),
     ('a rectangle is no box\'s', 'b', lambda svg, line: svg.replace(line, f'{line}\n<rect x="9" y="36" width="9" height="17"/>')),

@@ -51,7 +51,8 @@ def part_of(drawing: Drawing, span: Span) -> Part:
 
 def box_of(document: Document, drawing: Drawing, path: list[str]) -> int | None:
     """The box of a path of names, if a drawing has it."""
-    found = [box for box in range(drawing.count) if [document.names[drawing.name[each]] for each in drawing.path(box) if each or box] == path]
+    found = [box for box in range(drawing.count)
+             if [document.names[drawing.name[each]] for each in drawing.path(box) if each or box] == path]
     return found[0] if found else None
 
 
@@ -134,7 +135,8 @@ class Table:
 
     def order(self, key: str, is_rising: bool) -> list[str]:
         """The names in their order by a column. Of the same number they stand as in the data."""
-        names = [self.document.names[name] for name in sorted(self.names(), key=lambda name: self.value(name, key) * (1 if is_rising else -1))]
+        names = [self.document.names[name]
+                 for name in sorted(self.names(), key=lambda name: self.value(name, key) * (1 if is_rising else -1))]
         if key == 'name':
             names.sort(key=lambda name: name.encode('utf-16-be', 'surrogatepass'), reverse=not is_rising)
         return [words.visible(name) or words.EMPTY for name in names]

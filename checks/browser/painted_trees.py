@@ -10,7 +10,8 @@ from told_boxes import Box, columns_of
 
 WORDS = ('read', 'parse', 'next', 'encode', 'Row', 'List', 'hash', 'poll', 'flush', 'visit', 'Tree', 'scan', 'merge', 'lock', 'send', 'map')
 ODD_NAMES = ('', '<', '&amp;', '"quoted"', "it's", 'Vec<Box<dyn Fn(&str) -> bool>>', '</script><script>', 'été', '你好世界',
-             '😀 👩‍💻', 'מה שלומך', 'tab\there', 'a\u200eb', 'line\u2028end', '[U+0000]', 'x' * 1500, 'ab' * 40, '%', 'a/b', '#&=', '…', ' lead')
+             '😀 👩‍💻', 'מה שלומך', 'tab\there', 'a\u200eb', 'line\u2028end', '[U+0000]', 'x' * 1500, 'ab' * 40,
+             '%', 'a/b', '#&=', '…', ' lead')
 
 
 @dataclass

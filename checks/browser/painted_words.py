@@ -105,7 +105,8 @@ class Parts(NamedTuple):
 
     def written(self, first: int, beyond: int) -> str:
         """Some parts without brackets."""
-        return ''.join(self.bare[first:first + 1] + [*itertools.chain(*zip(self.between[first:], self.bare[first + 1:beyond]))]) if first < beyond else ''
+        return (''.join(self.bare[first:first + 1] + [*itertools.chain(*zip(self.between[first:], self.bare[first + 1:beyond]))])
+                if first < beyond else '')
 
 
 def parts_of(name: str) -> Parts | None:
@@ -118,7 +119,8 @@ def parts_of(name: str) -> Parts | None:
     begins = [0, *(end for _, end in ends)]
     parts = [head[begin:end] for begin, end in zip(begins, [*(start for start, _ in ends), len(head)])]
     own = [at for at, part in enumerate(parts) if at == 0 or not NO_NAME.fullmatch(part)]
-    bare = [re.sub(rf'^({BRACKETED}*[^{BRACKETED}]*).*', lambda kept: part[:len(kept[1])], masked[begin:begin + len(part)], flags=re.DOTALL).rstrip()
+    bare = [re.sub(rf'^({BRACKETED}*[^{BRACKETED}]*).*', lambda kept: part[:len(kept[1])], masked[begin:begin + len(part)],
+                   flags=re.DOTALL).rstrip()
             for begin, part in zip(begins, parts)]
     return Parts(head, begins, bare, [head[start:end] for start, end in ends], own)
 

@@ -13,7 +13,8 @@ from safety import LETTERS, ratio
 WIDTH, HEIGHT = 390, 844
 # The contrast that WCAG asks for at AA of what has to be seen beside letters.
 SHAPES = 3
-TOOLS = ('#find', '#by', '#order', '#previous', '#next', '#back', '#callers', '#below', '#listed', '#save-svg', '#save-png', '#print', '#help', '#picture')
+TOOLS = ('#find', '#by', '#order', '#previous', '#next', '#back', '#callers', '#below', '#listed', '#save-svg', '#save-png', '#print',
+         '#help', '#picture')
 LONG = 'shop::storage::engine::compaction::LeveledCompaction<std::vector<Table>>::pick_and_merge_tables(Level const&, unsigned long)'
 # Of each text that is seen its letters, their colour, and the colours behind them, from the nearest on.
 COLOURS = '''(() => {
@@ -88,12 +89,14 @@ def status_in_sight(check):
             browser.value(f'scrollTo(0, {part} * document.documentElement.scrollHeight)')
             browser.settle()
             left, top, width, height = browser.area('#status')
-            assert left >= 0 and left + width <= WIDTH and top >= 0 and top + height <= HEIGHT, f'{part} down the status stands from {top} to {top + height}'
+            assert left >= 0 and left + width <= WIDTH and top >= 0 and top + height <= HEIGHT, (
+                f'{part} down the status stands from {top} to {top + height}')
             cut = browser.value("(({ scrollHeight, clientHeight }) => scrollHeight - clientHeight)(document.getElementById('status'))")
             assert cut <= 1, f'{cut} pixels of the status are cut'
             over = browser.value(f'document.elementFromPoint({left + width / 2}, {top + height / 2}).id')
             same(over, 'status', f'what lies over the status {part} down')
-        last = browser.value("document.querySelector('#functions-more:not([hidden]), #functions tbody tr:last-child').getBoundingClientRect().bottom")
+        last = browser.value("document.querySelector('#functions-more:not([hidden]), #functions tbody tr:last-child')"
+                             '.getBoundingClientRect().bottom')
         assert last <= top, f'the end of the lists is at {last}, behind the status at {top}'
 
 
@@ -112,8 +115,10 @@ def lists_near(check):
 
 
 def tools_in_place(browser):
-    return [browser.value(f'''(({{ left, top }}) => [left + scrollX, top + scrollY])(document.querySelector('{tool}').getBoundingClientRect())''')
-            for tool in TOOLS]
+    return [
+        browser.value(
+            f'''(({{ left, top }}) => [left + scrollX, top + scrollY])(document.querySelector('{tool}').getBoundingClientRect())''')
+        for tool in TOOLS]
 
 
 def tools_stand_still(check):
@@ -131,7 +136,8 @@ def tools_stand_still(check):
             same(tools_in_place(browser), first, f'where tools stand in {width} while {text!r} is searched for')
             cut = browser.value("(({ scrollWidth, clientWidth }) => scrollWidth - clientWidth)(document.getElementById('matched'))")
             assert cut <= 0, f'{browser.text("#matched")!r} is cut in {width}'
-        for words in ('#drawing=1', '#zoom=main', '#callers=main', '#callers=function7_with_a_long_name_that_goes_on', '#heavy=1&find=inner'):
+        for words in ('#drawing=1', '#zoom=main', '#callers=main', '#callers=function7_with_a_long_name_that_goes_on',
+                      '#heavy=1&find=inner'):
             browser.value(f'location.hash = {json.dumps(words)}')
             browser.settle()
             same(tools_in_place(browser), first, f'where tools stand in {width} at {words}')
@@ -160,7 +166,8 @@ def contrast(check):
     browser = check.browser
     for scheme, palette in (('light', LIGHT), ('dark', DARK)):
         browser.prefer(scheme)
-        pages = (('graph', '--least', '5', 'parse.folded'), ('chart', 'parse.folded', 'faster.folded'), ('compare', 'parse.folded', 'faster.folded'))
+        pages = (('graph', '--least', '5', 'parse.folded'), ('chart', 'parse.folded', 'faster.folded'),
+                 ('compare', 'parse.folded', 'faster.folded'))
         for words in pages:
             check.show(*words, fragment='#find=parse')
             browser.value("for (const each of document.querySelectorAll('details')) each.open = true")
@@ -203,7 +210,8 @@ def weights_once(check):
     weights = {'work': 1_234_567_891, 'wait': 2_500_003, 'poll': 1_507}
     stacks = [(['main', name], [weight]) for name, weight in weights.items()]
     time = check.write('once.pb', profiles.profile([('cpu', 'nanoseconds')], stacks))
-    other = check.write('other.pb', profiles.profile([('cpu', 'nanoseconds')], [(['main', 'work'], [2_000_000_017]), (['main', 'gone'], [3_000_019])]))
+    other = check.write('other.pb', profiles.profile([('cpu', 'nanoseconds')],
+                                                     [(['main', 'work'], [2_000_000_017]), (['main', 'gone'], [3_000_019])]))
     for words in (('graph', time), ('chart', time, other), ('compare', other, time)):
         check.show(words[0], '--least', '0', *words[1:], fragment='#find=w')
         browser.value("document.getElementById('sources').open = true")
@@ -212,7 +220,8 @@ def weights_once(check):
         contains(' · '.join(told), 'work · 1.23 s, ', f'the tip of {words[0]}')
         contains(browser.text('#status'), 'work · 1.23 s (1,234,567,891 nanoseconds), ', f'the status of {words[0]}')
         said = browser.value(SAID)
-        same([text for text in ('nanoseconds', '(1,', ',567,', ',003', ',507') if text in said], [], f'exact numbers that {words[0]} says elsewhere')
+        same([text for text in ('nanoseconds', '(1,', ',567,', ',003', ',507') if text in said], [],
+             f'exact numbers that {words[0]} says elsewhere')
         for line in (told, browser.text('#status').split(' · ')):
             # Its weight, and the weight of its own; of a comparison that in the other profile, too.
             weighed = ' '.join(part for part in line if not part.startswith('from '))
@@ -220,10 +229,12 @@ def weights_once(check):
         browser.move(*middle(browser, '#functions tbody tr:nth-child(1)'))
         zero = '0 ns · after 2.5 ms (2,500,003 nanoseconds)'
         exact = {'compare': f'own before {zero} · total before {zero}', 'chart': 'own 3.23 s (3,234,567,908 nanoseconds) · total 3.23 s'}
-        contains(browser.text('#status'), exact.get(words[0], 'own 1.23 s (1,234,567,891 nanoseconds) · total 1.23 s'), f'the status of a function of {words[0]}')
+        contains(browser.text('#status'), exact.get(words[0], 'own 1.23 s (1,234,567,891 nanoseconds) · total 1.23 s'),
+                 f'the status of a function of {words[0]}')
         browser.move(1, 1)
     browser.move(*middle(browser, '#gone-list button'))
-    same(browser.text('#status'), 'gone · before 3 ms (3,000,019 nanoseconds) · own 3 ms (3,000,019 nanoseconds)', 'the status of what is gone')
+    same(browser.text('#status'), 'gone · before 3 ms (3,000,019 nanoseconds) · own 3 ms (3,000,019 nanoseconds)',
+         'the status of what is gone')
     check.show('chart', '--least', '0', time, other)
     browser.move(*middle(browser, '#lanes button'))
     same(browser.text('#status'), 'once.pb: 1.24 s (1,237,069,401 nanoseconds) of cpu', 'the status of a source')

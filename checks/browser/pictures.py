@@ -176,7 +176,8 @@ def snapshots(check):
 def snapshots_of_sources(check):
     browser = check.browser
     # Of two sources the program may take the samples in another order in each run.
-    data = documents.data_of(check.program, ['graph', '--every', '1', check.write('order.folded', 'main;load 3\nmain;work;walk 5\nmain 1\n')])
+    data = documents.data_of(check.program, ['graph', '--every', '1',
+                                             check.write('order.folded', 'main;load 3\nmain;work;walk 5\nmain 1\n')])
     for drawing, counts in zip(data['drawings'], [[1, 0], [1, 1], [1, 2]]):
         drawing['counts'] = counts
     data['sources'] = [data['sources'][0] | {'name': name, 'weight': weight} for name, weight in (('one.folded', 3), ('two.folded', 6))]
@@ -213,7 +214,8 @@ def lanes(check):
     same(dark, [round(boundary)], 'the line between the sources')
     contains(picture.told(1, 0.5)[3], 'in parse.folded, faster.folded', 'the sources of main')
     check.screenshot('chart')
-    ticks = browser.value("[...document.querySelectorAll('#axis span')].map((each) => [each.textContent, each.getBoundingClientRect().left])")
+    ticks = browser.value("[...document.querySelectorAll('#axis span')]"
+                          '.map((each) => [each.textContent, each.getBoundingClientRect().left])')
     for text, left in ticks:
         near(left - picture.left, int(text) * picture.width / 95, f'tick {text}')
     same([text for text, _ in ticks][:3], ['0', '10', '20'], 'the axis')
@@ -261,7 +263,8 @@ def differences(check):
     same(browser.text('#drawing-name'), f'before: {before}', 'a path that is gone is shown in the profile before')
     same(fragment(browser), '#zoom=main/old&drawing=0', 'fragment')
     same(picture.told(3, 0.5)[3], 'after 0: gone', 'tip of what went with it')
-    old, part = ['old', '2 25%', '0 0%', '−2 gone', '8 100%', '0 0%', '−8 gone'], ['part', '6 75%', '0 0%', '−6 gone', '6 75%', '0 0%', '−6 gone']
+    old, part = (['old', '2 25%', '0 0%', '−2 gone', '8 100%', '0 0%', '−8 gone'],
+                 ['part', '6 75%', '0 0%', '−6 gone', '6 75%', '0 0%', '−6 gone'])
     same(sorted(table(browser)), [old, part], 'functions in what is gone')
     browser.click_on('#before')
     same(browser.text('#drawing-name'), f'after: {after}', 'back to the profile after')
@@ -416,5 +419,5 @@ def narrow_windows(check):
         browser.resize(*browser.size)
 
 
-TESTS = [first_paint, widths, broken, root_below, root_below_at_first, zoom, keys, snapshots, snapshots_of_sources, lanes, differences, shares, shares_at_first,
-         gone_from_the_depth, deep, narrow_boxes, joined_colours, narrow_windows]
+TESTS = [first_paint, widths, broken, root_below, root_below_at_first, zoom, keys, snapshots, snapshots_of_sources, lanes, differences,
+         shares, shares_at_first, gone_from_the_depth, deep, narrow_boxes, joined_colours, narrow_windows]

@@ -98,7 +98,8 @@ FAULTS = {
         ('compared.js', '? after - before : (after - before) / before', '? after - before : (after - before) / after'),
         ('compared.js', "if (column === 'after') return after;", ''),
         ('compared.js', 'const isThere = profile.count > 0 && profile.depth[box] === path.length;', 'const isThere = true;'),
-        ('compared.js', 'const path = pathOf(page, drawing, state.box);', 'const path = pathOf(page, page.drawing(state.drawing), state.box);'),
+        ('compared.js', 'const path = pathOf(page, drawing, state.box);',
+         'const path = pathOf(page, page.drawing(state.drawing), state.box);'),
         ('compared.js', 'spanOf(page, profile, there)', 'view.span'),
         ('compared.js', 'drawing: number, box }', 'drawing: number }'),
         ('compared.js', 'changeText(compared.before, compared.after)', 'changeText(before, after)'),
@@ -107,7 +108,8 @@ FAULTS = {
     ],
     'zoomed': [
         ('sums.js', 'isZoomed(view) ? zoomedWeight(drawing, span.row, span) : drawing.total', 'drawing.total'),
-        ('sums.js', 'sumsOf(drawing, page.names.length, span), whole }', 'sumsOf(drawing, page.names.length, { from: 0, to: drawing.total, depth: 0, row: 0 }), whole }'),
+        ('sums.js', 'sumsOf(drawing, page.names.length, span), whole }',
+         'sumsOf(drawing, page.names.length, { from: 0, to: drawing.total, depth: 0, row: 0 }), whole }'),
         ('view.js', 'state.source >= 0 || state.from >= 0', 'state.source >= 0'),
     ],
     'callers': [

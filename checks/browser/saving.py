@@ -36,7 +36,8 @@ def saved(check, kind):
 def named_boxes(svg):
     """The left edge and the width of the box under each text."""
     elements = [element for element in svg.iter() if element.tag in (f'{SVG}rect', f'{SVG}text')]
-    return {text.text: (float(box.get('x')), float(box.get('width'))) for box, text in zip(elements, elements[1:]) if text.tag == f'{SVG}text'}
+    return {text.text: (float(box.get('x')), float(box.get('width')))
+            for box, text in zip(elements, elements[1:]) if text.tag == f'{SVG}text'}
 
 
 def saving(check):

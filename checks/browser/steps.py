@@ -127,7 +127,8 @@ def as_a_map(check):
     browser.open(path, fragment(browser))
     same(Picture(browser).told(3, 0.3), shown, 'after a reload')
     browser.value("document.getElementById('picture').focus()")
-    for key, wanted in (('>', (moved + width / 4, width)), ('<', (moved, width)), ('+', (moved + width / 6, width / 1.5)), ('-', (moved, width))):
+    for key, wanted in (('>', (moved + width / 4, width)), ('<', (moved, width)), ('+', (moved + width / 6, width / 1.5)),
+                        ('-', (moved, width))):
         browser.press(key)
         begin, end = part()
         near(begin, wanted[0], f'the left edge after {key}', 0.1)
@@ -189,7 +190,8 @@ def matches_in_turn(check):
         found.append(picture.heard().split(' of the whole')[0])
     first, second, third = 'leaf · 2, 10%', 'leaf · 5, 25%', 'leaf · 10, 50%'
     same(found, [first, third, second, third, first], 'the buttons for the next and the previous')
-    browser.value("""((order) => { order.value = 'weight'; order.dispatchEvent(new Event('change')); })(document.getElementById('order'))""")
+    browser.value(
+        """((order) => { order.value = 'weight'; order.dispatchEvent(new Event('change')); })(document.getElementById('order'))""")
     found = []
     for button in ('next', 'next', 'next', 'previous'):
         browser.click_on(f'#{button}')
@@ -243,14 +245,16 @@ def widening(check):
     def drag(by):
         left, top, width, height = browser.area('#divider')
         x, y = left + width / 2, top + height / 2
-        for kind, to in (('mouseMoved', x), ('mousePressed', x), ('mouseMoved', x + by / 2), ('mouseMoved', x + by), ('mouseReleased', x + by)):
+        for kind, to in (('mouseMoved', x), ('mousePressed', x), ('mouseMoved', x + by / 2), ('mouseMoved', x + by),
+                         ('mouseReleased', x + by)):
             browser.send('Input.dispatchMouseEvent', type=kind, x=to, y=y, button='left', clickCount=1)
         browser.settle()
 
     def seen():
         picture = Picture(browser)
         lists = browser.area('#lists')[2]
-        same([browser.value("document.getElementById('canvas').width"), len(picture.runs(3))], [picture.width, 3], 'the picture is painted anew')
+        same([browser.value("document.getElementById('canvas').width"), len(picture.runs(3))], [picture.width, 3],
+             'the picture is painted anew')
         return [fragment(browser), lists, picture.width + lists]
 
     first = seen()
@@ -334,4 +338,5 @@ def first_run(check):
     same(Picture(check.browser).name(3, 0.9), 'tokenize', 'a box of the example')
 
 
-TESTS = [going_back, back_from_a_link, back_to_a_snapshot, dragging, as_a_map, by_two_fingers, widening, matches_in_turn, keys_alone, on_a_phone, in_wide_windows, first_run]
+TESTS = [going_back, back_from_a_link, back_to_a_snapshot, dragging, as_a_map, by_two_fingers, widening, matches_in_turn, keys_alone,
+         on_a_phone, in_wide_windows, first_run]

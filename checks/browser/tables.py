@@ -101,7 +101,8 @@ def faults_of(browser, wanted, key, is_rising=False):
     if rows and shown | {'name'} != set(seen['heads']):
         found.append(f'there are columns {shown}, and headings {seen["heads"]}')
     # Whatever has room for something has room for the changes; both kinds have the same columns.
-    if rows and wanted.is_comparison and [bool(cell) for cell in cells] not in ([True] * 6, [False, True, True] * 2, [False, False, True] * 2):
+    if (rows and wanted.is_comparison
+            and [bool(cell) for cell in cells] not in ([True] * 6, [False, True, True] * 2, [False, False, True] * 2)):
         found.append(f'it shows {shown}')
     found += [f'the heading of {each} ends at {seen["heads"][each]}, and its cells at {cell}' for each, cell in zip(keys, cells)
               if cell and each in seen['heads'] and (each, cell[1]) != (each, seen['heads'][each][1]) and wanted.is_comparison]
@@ -163,7 +164,8 @@ def sorted_tables(check):
 def changed(drawn, text):
     """The stacks of a text with other weights, some of them gone, and some new."""
     lines = [line.rpartition(' ') for line in text.splitlines()]
-    kept = [f'{stack} {max(1, int(int(weight) * drawn.choice((0.4, 0.9, 1, 1.2, 3))))}' for stack, _, weight in lines if drawn.random() < 0.9]
+    kept = [f'{stack} {max(1, int(int(weight) * drawn.choice((0.4, 0.9, 1, 1.2, 3))))}'
+            for stack, _, weight in lines if drawn.random() < 0.9]
     return '\n'.join([*kept, 'net/http.(*conn).serve;shop/cache.(*LRU[go.shape.string,go.shape.*uint8]).Get 120', ''])
 
 
@@ -205,7 +207,8 @@ def tables_of_others(check):
     shown = check.write('nested.folded', BEFORE), check.write('second.folded', AFTER)
     of_all = [([], {}), ([], {'find': 'l'}), ([], {'callers': 'leaf'})]
     for words, looks in ((['graph', shown[0]], [*of_all, (['main', 'walk'], {}), (['main'], {'heavy': True})]),
-                         (['graph', '--every', '2', shown[0]], [*of_all, ([], {'drawing': 0}), (['main', 'walk'], {'drawing': 1, 'find': 'l'})]),
+                         (['graph', '--every', '2', shown[0]],
+                          [*of_all, ([], {'drawing': 0}), (['main', 'walk'], {'drawing': 1, 'find': 'l'})]),
                          (['chart', *shown], of_all)):
         data = documents.data_of(check.program, words)
         document = Document(data)

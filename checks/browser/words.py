@@ -81,7 +81,8 @@ def functions(check):
     same(table(browser), [leaf, main, other, walk], 'by name')
     same(search(browser, 'walk', 'name'), '2 matched, 80%', 'a search for a whole name')
     same(fragment(browser), '#find=walk&by=name', 'fragment')
-    same([table(browser), browser.text('#functions-title')], [[leaf, main, other, walk], 'Functions'], 'a name that is searched for as a whole')
+    same([table(browser), browser.text('#functions-title')], [[leaf, main, other, walk], 'Functions'],
+         'a name that is searched for as a whole')
     marked = "[...document.querySelectorAll('#functions tr[aria-current] button')].map((button) => button.textContent)"
     same(browser.value(marked), ['walk'], 'it is marked')
     check.show('graph', check.write('nameless.folded', 'main;;leaf 2\nmain 1\n'), fragment='#by=name')
@@ -122,7 +123,8 @@ def columns(check):
                 .filter((cell) => cell.getClientRects().length > 0).map((cell) => [cell.clientWidth, cell.scrollWidth - cell.clientWidth])""")
             room = browser.area('#functions')[2]
             assert cells[0][0] >= 0.5 * room - 1, f'{words[0]}{shown} in {width}: names have {cells[0][0]} of {room}'
-            assert len(cells) in ((3, 5, 7) if words[0] == 'compare' else (5,)) and all(more <= 0 for _, more in cells[1:]), f'{words[0]}{shown} in {width}: {cells}'
+            assert len(cells) in ((3, 5, 7) if words[0] == 'compare' else (5,)) and all(more <= 0 for _, more in cells[1:]), (
+                f'{words[0]}{shown} in {width}: {cells}')
             same(browser.value("(({ scrollWidth, clientWidth }) => scrollWidth - clientWidth)(document.getElementById('lists'))"), 0,
                  f'what is out of sight of the lists of {words[0]}{shown} in {width}')
 
@@ -172,15 +174,16 @@ def units(check):
 
 def more_units(check):
     browser = check.browser
-    hours = check.write('hours.pb', profiles.profile([('cpu', 'nanoseconds')], [(['main', 'work'], [9_876_543_210_987]), (['main'], [1_500])]))
+    hours = check.write('hours.pb', profiles.profile([('cpu', 'nanoseconds')],
+                                                     [(['main', 'work'], [9_876_543_210_987]), (['main'], [1_500])]))
     empty = check.write('empty.pb', profiles.profile([('cpu', 'nanoseconds')], []))
     check.show('graph', '--least', '0', hours, empty)
     contains(browser.text('#summary'), ': 9,877 s of cpu, ', 'many seconds')
     same(browser.text('#notices'), '', 'a source without samples has no other unit')
     same(Picture(browser).told(1, 0.5)[2], 'own 1.5 µs', 'microseconds')
     check.show('compare', '--least', '0', hours, 'parse.folded')
-    same(browser.text('#notices'), f'The sources have different units, so comparing them means little: {hours} in nanoseconds, parse.folded in'
-         ' plain numbers.', 'different units of two profiles')
+    same(browser.text('#notices'), f'The sources have different units, so comparing them means little: {hours} in nanoseconds, '
+         'parse.folded in plain numbers.', 'different units of two profiles')
     contains(browser.text('#summary'), 'before 9,876,543,212,487, after 57, ', 'their weights')
     check.show('compare', check.write('seven.folded', 'a 7\n'), check.write('hundred.folded', 'a 93\n'))
     same(Picture(browser).told(1, 0.5)[3], 'before 7: +1,229%', 'a large change')
@@ -269,4 +272,5 @@ def failing_outputs(check):
         same([answer.returncode, answer.stderr], [3, b'flamecollect: output failed\n'], f'{words[0]} to a full device')
 
 
-TESTS = [data, searching, functions, functions_of_a_part, columns, standing_still, units, more_units, notices, whole, links, failing_outputs]
+TESTS = [data, searching, functions, functions_of_a_part, columns, standing_still, units, more_units, notices, whole, links,
+         failing_outputs]
