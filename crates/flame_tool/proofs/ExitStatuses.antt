@@ -12,9 +12,9 @@ use Rattle.flame_tool.specs.checked.Failures.{Fails, KeepsOutput, exit_status}
 use Rattle.flame_tool.specs.checked.TypeFailures.{FailsTypes}
 use Rattle.flame_tool.proofs.RunEndings.{failed_faulty, failed_front}
 use Rattle.flame_tool.proofs.TypeEndings.{types_faulty, types_front}
-use Rattle.opened_sources.specs.Failures.{CountsFailure, Flushes, status_of}
-use Rattle.opened_sources.specs.declared.failures.Failure.{Failure}
-use Rattle.opened_sources.specs.declared.failures.Failure.TheVariants.{TooManyFiles, Unreadable, TooLarge, OutOfMemory, NoThread, Unfinished, Faults, Output}
+use Rattle.source_views.specs.Failures.{CountsFailure, Flushes, status_of}
+use Rattle.source_views.specs.declared.failures.Failure.{Failure}
+use Rattle.source_views.specs.declared.failures.Failure.TheVariants.{TooManyFiles, Unreadable, TooLarge, OutOfMemory, NoThread, Unfinished, Faults, Output}
 
 -- ---- of any failure
 

@@ -9,7 +9,7 @@ use Rattle.command_line.specs.Plans.{limit_of}
 use Rattle.command_line.specs.declared.plans.Plan.{Plan}
 use Rattle.command_line.specs.declared.plans.View.{View}
 use Rattle.command_line.specs.declared.plans.View.TheVariants.{Fold, Graph, Chart, Pairs, PairBoxes, Top, Diff}
-use Rattle.opened_sources.specs.declared.failures.Failure.{Failure}
+use Rattle.source_views.specs.declared.failures.Failure.{Failure}
 use Rattle.source_views.specs.Texts.{grown_names, grown_over, growth_line, limit_line, order_of}
 use Rattle.flame_tool.specs.Runs.{wanted_lists}
 use Rattle.flame_tool.specs.checked.Failures.{TellsGrowth}

@@ -26,18 +26,18 @@ use Rattle.command_line.specs.declared.plans.Plan.{Plan}
 use Rattle.source_lists.specs.FromNames.{rest_from}
 use Rattle.source_lists.specs.OmittedNames.{rest_without, shown_rests}
 use Rattle.source_lists.specs.Sources.{all_found, asked_rest, asked_rests, known_inputs, read_bytes}
-use Rattle.opened_sources.specs.Opening.{AreLoaded, IsLoaded, IsLoadedInput}
+use Rattle.source_views.specs.Opening.{AreLoaded, IsLoaded, IsLoadedInput}
 use Rattle.flame_tool.specs.KnownFacts.{bytes_at, bytes_in, bytes_of, facts_of, known_sources, wanted_rests}
-use Rattle.sent_views.specs.Pages.{shown_text}
+use Rattle.flame_tool.specs.Pages.{shown_text}
 use Rattle.flame_tool.specs.Runs.{IsClean, IsFault, lists_of, wanted_lists, IsTextOf, Shows, HasFault}
 use Rattle.flame_tool.specs.StrictRuns.{has_strict_fault}
 use Rattle.flame_tool.specs.checked.Failures.{Fails, FailsToShow, TellsGrowth}
 use Rattle.flame_tool.proofs.StrictSources.{clean_sources}
 use Rattle.flame_tool.proofs.GrownFunctions.{is_said, tells_growth}
 use Rattle.source_views.specs.Texts.{growth_line}
-use Rattle.opened_sources.specs.Failures.{has_fault, ends_in_fault}
-use Rattle.opened_sources.specs.declared.failures.Failure.{Failure}
-use Rattle.opened_sources.specs.declared.failures.Failure.TheVariants.{TooManyFiles, Unreadable, TooLarge, OutOfMemory, NoThread, Unfinished, Faults, Output}
+use Rattle.source_views.specs.Failures.{has_fault, ends_in_fault}
+use Rattle.source_views.specs.declared.failures.Failure.{Failure}
+use Rattle.source_views.specs.declared.failures.Failure.TheVariants.{TooManyFiles, Unreadable, TooLarge, OutOfMemory, NoThread, Unfinished, Faults, Output}
 
 -- ---- what is known of loaded sources
 

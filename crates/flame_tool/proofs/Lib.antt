@@ -6,6 +6,8 @@ mod LiveSaid
 mod LiveSinks
 mod LiveStreamLemmas
 mod LiveTexts
+pub mod PageLemmas
+mod PictureLemmas
 mod RenewedFiles
 mod RunEndings
 mod SaidSources
@@ -16,6 +18,8 @@ mod ToldEndings
 mod TypeEndings
 mod UntouchedOutputs
 mod WorkedLive
+mod WorkedPages
+mod WorkedPictures
 mod WorkedRequests
 mod WorkedRows
 mod WorkedSteps

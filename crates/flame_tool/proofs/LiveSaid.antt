@@ -17,11 +17,11 @@ use Rattle.command_line.specs.declared.plans.Plan.{Plan}
 use Rattle.ring_collect.specs.Collection.{Collects, seen_as_rest}
 use Rattle.ring_collect.specs.declared.faults.CollectFault.{CollectFault}
 use Rattle.ring_collect.specs.declared.faults.CollectFault.TheVariants as collect
-use Rattle.opened_sources.specs.Failures.{IsOpening, failure_of_collect, status_of}
-use Rattle.opened_sources.specs.Messages.{Tells, message_of_ending, message_of_failure, message_of_strict_fault, said_of_each}
-use Rattle.opened_sources.specs.declared.failures.Failure.{Failure}
-use Rattle.opened_sources.specs.declared.failures.Failure.TheVariants.{TooManyFiles, Unreadable, TooLarge, OutOfMemory, NoThread, Unfinished, Faults, Output}
-use Rattle.opened_sources.proofs.MessageTexts.{said_of_seen, tells_more}
+use Rattle.source_views.specs.Failures.{IsOpening, failure_of_collect, status_of}
+use Rattle.source_views.specs.Messages.{Tells, message_of_ending, message_of_failure, message_of_strict_fault, said_of_each}
+use Rattle.source_views.specs.declared.failures.Failure.{Failure}
+use Rattle.source_views.specs.declared.failures.Failure.TheVariants.{TooManyFiles, Unreadable, TooLarge, OutOfMemory, NoThread, Unfinished, Faults, Output}
+use Rattle.source_views.proofs.MessageTexts.{said_of_seen, tells_more}
 use Rattle.flame_tool.specs.LiveRuns.{read_text}
 use Rattle.flame_tool.specs.ToldLive.{IsEarly, IsOfFailure, TellsLiveFailure, TellsSuch, message_of_text, said_of_streams, said_of_texts}
 use Rattle.flame_tool.specs.checked.LiveEnds.{anywhere, is_faulty, is_stopped, status_by, strict_list_fault}

@@ -26,8 +26,8 @@ use Rattle.ring_collect.proofs.RoundLemmas.{slice_get_map}
 use Rattle.ring_collect.proofs.RunLemmas.{at_index}
 use Rattle.source_views.specs.Texts.{view_text}
 use Rattle.source_views.proofs.SnapshotLines.{front_more, front_of_nothing}
-use Rattle.opened_sources.specs.Failures.{failure_of_collect}
-use Rattle.opened_sources.specs.declared.failures.Failure.{Failure}
+use Rattle.source_views.specs.Failures.{failure_of_collect}
+use Rattle.source_views.specs.declared.failures.Failure.{Failure}
 use Rattle.live_lines.specs.Frames.{frames_text}
 use Rattle.live_lines.specs.Pages.{pages_text}
 use Rattle.live_lines.specs.declared.form.LiveForm.TheVariants.{Lines, Pages, Table}

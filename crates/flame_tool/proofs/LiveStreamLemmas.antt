@@ -14,9 +14,9 @@ use Rattle.byte_io.specs.declared.whole_input.LoadFault.{LoadFault}
 use Rattle.byte_io.specs.declared.whole_input.LoadFault.TheVariants as load
 use Rattle.ring_collect.proofs.RoundLemmas.{slice_get_map}
 use Rattle.ring_collect.proofs.RunLemmas.{at_index}
-use Rattle.opened_sources.specs.Failures.{IsOfLoad, failure_of_load}
-use Rattle.opened_sources.specs.declared.failures.Failure.{Failure}
-use Rattle.opened_sources.specs.declared.failures.Failure.TheVariants.{Unreadable}
+use Rattle.source_views.specs.Failures.{IsOfLoad, failure_of_load}
+use Rattle.source_views.specs.declared.failures.Failure.{Failure}
+use Rattle.source_views.specs.declared.failures.Failure.TheVariants.{Unreadable}
 use Rattle.flame_tool.specs.ToldLive.{IsMissing}
 use Rattle.flame_tool.specs.checked.LiveStreams.{AreOpened, GivesStream, IsOfFile, ReadsAs, ReadsText}
 use Rattle.flame_tool.proofs.KnownSources.{neither}

@@ -22,9 +22,9 @@ use Rattle.folded_lines.proofs.StrictStreamTexts.{strict_text_fault}
 use Rattle.merged_stacks.specs.Timeline.{samples_of}
 use Rattle.command_line.specs.declared.plans.Plan.{Plan}
 use Rattle.ring_collect.specs.Collection.{AreGiven, Collects, GiveSuch, seen_as_rest}
-use Rattle.opened_sources.specs.Failures.{IsOpening, ends_in_fault, has_fault, status_of}
-use Rattle.opened_sources.specs.declared.failures.Failure.{Failure}
-use Rattle.opened_sources.specs.declared.failures.Failure.TheVariants.{TooManyFiles, Unreadable, TooLarge, OutOfMemory, NoThread, Unfinished, Faults, Output}
+use Rattle.source_views.specs.Failures.{IsOpening, ends_in_fault, has_fault, status_of}
+use Rattle.source_views.specs.declared.failures.Failure.{Failure}
+use Rattle.source_views.specs.declared.failures.Failure.TheVariants.{TooManyFiles, Unreadable, TooLarge, OutOfMemory, NoThread, Unfinished, Faults, Output}
 use Rattle.flame_tool.specs.LiveRuns.{AreFaultless, AreFirst, HasTextFault, ShowsAllOf, ShowsFirstOf, ShowsSomeOf, has_strict_text, known_texts, live_texts, read_text, read_texts}
 use Rattle.source_lists.specs.Sources.{all_found}
 use Rattle.flame_tool.specs.Runs.{HasFault, IsClean, lists_of}

@@ -20,22 +20,22 @@ use Rattle.command_line.specs.declared.plans.Form.TheVariants as form
 use Rattle.command_line.specs.declared.plans.Plan.{Plan}
 use Rattle.command_line.specs.declared.plans.View.{View}
 use Rattle.command_line.specs.declared.plans.View.TheVariants.{Fold, Graph, Chart, Pairs, PairBoxes, Top, Diff}
-use Rattle.sum_texts.specs.Told.{Told}
-use Rattle.sent_views.specs.declared.run_facts.RunFacts.{RunFacts}
+use Rattle.function_sums.specs.Told.{Told}
+use Rattle.flame_tool.specs.declared.run_facts.RunFacts.{RunFacts}
 use Rattle.source_lists.specs.OmittedNames.{rest_without, shown_rests}
 use Rattle.source_lists.proofs.CutLemmas.{shown_whole}
 use Rattle.flame_tool.specs.KnownFacts.{facts_of, known_sources}
 use Rattle.run_options.specs.declared.formats.Format.{Format}
 use Rattle.flame_tool.specs.checked.Telling.{form_tells, view_tells}
 use Rattle.flame_tool.specs.Requests.{asked_faults, asked_plan}
-use Rattle.sent_views.specs.Pages.{called_text, page_text, peeked_text, picture_text, shown_text, text_in, told_in}
+use Rattle.flame_tool.specs.Pages.{called_text, page_text, peeked_text, picture_text, shown_text, text_in, told_in}
 use Rattle.source_views.specs.Texts.{IsOrderless, told_text, view_text}
 use Rattle.flame_tool.specs.Runs.{lists_of, wanted_lists, text_of, GainsFront, IsClean, IsFault, Shows, ShowsFront, ShowsSamples, IsOfSamples}
 use Rattle.flame_tool.specs.StrictRuns.{HasPlainFault}
 use Rattle.flame_tool.specs.checked.Failures.{Fails, KeepsOutput}
-use Rattle.opened_sources.specs.Failures.{status_of}
-use Rattle.opened_sources.specs.declared.failures.Failure.{Failure}
-use Rattle.opened_sources.specs.declared.failures.Failure.TheVariants.{TooManyFiles, Unreadable, TooLarge, OutOfMemory, NoThread, Unfinished, Faults, Output}
+use Rattle.source_views.specs.Failures.{status_of}
+use Rattle.source_views.specs.declared.failures.Failure.{Failure}
+use Rattle.source_views.specs.declared.failures.Failure.TheVariants.{TooManyFiles, Unreadable, TooLarge, OutOfMemory, NoThread, Unfinished, Faults, Output}
 
 -- ---- a failed run of a plan
 

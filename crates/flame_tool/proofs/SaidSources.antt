@@ -13,11 +13,11 @@ use Rattle.source_lists.specs.declared.run_faults.RunFault.TheVariants as run
 use Rattle.command_line.specs.declared.plans.Form.{Form}
 use Rattle.command_line.specs.declared.plans.Form.TheVariants as form
 use Rattle.command_line.specs.declared.plans.Plan.{Plan}
-use Rattle.opened_sources.specs.Failures.{failure_of_run, status_of}
-use Rattle.opened_sources.specs.Messages.{Tells, message_of_ending, message_of_failure, message_of_strict_fault, said_of_each}
-use Rattle.opened_sources.specs.declared.failures.Failure.{Failure}
-use Rattle.opened_sources.specs.declared.failures.Failure.TheVariants.{TooManyFiles, Unreadable, TooLarge, OutOfMemory, NoThread, Unfinished, Faults, Output}
-use Rattle.opened_sources.proofs.MessageTexts.{tells_more, tells_nothing}
+use Rattle.source_views.specs.Failures.{failure_of_run, status_of}
+use Rattle.source_views.specs.Messages.{Tells, message_of_ending, message_of_failure, message_of_strict_fault, said_of_each}
+use Rattle.source_views.specs.declared.failures.Failure.{Failure}
+use Rattle.source_views.specs.declared.failures.Failure.TheVariants.{TooManyFiles, Unreadable, TooLarge, OutOfMemory, NoThread, Unfinished, Faults, Output}
+use Rattle.source_views.proofs.MessageTexts.{tells_more, tells_nothing}
 use Rattle.flame_tool.specs.Runs.{ShowsSamples}
 use Rattle.flame_tool.specs.ToldRuns.{TellsProfile, TellsFailure, TellsGrown, TellsSources, said_of_growth, said_of_sources}
 use Rattle.flame_tool.specs.checked.Failures.{exit_status}

@@ -5,9 +5,9 @@ use Rattle.std.specs.Prelude.{Bool}
 use Rattle.stack_core.specs.Ledgers.{ListState}
 use Rattle.run_options.specs.declared.formats.Format.{Format}
 use Rattle.command_line.specs.declared.plans.Plan.{Plan}
-use Rattle.opened_sources.specs.Failures.{Flushes, has_fault, status_of}
-use Rattle.opened_sources.specs.declared.failures.Failure.{Failure}
-use Rattle.opened_sources.specs.declared.failures.Failure.TheVariants.{TooManyFiles, Unreadable, TooLarge, OutOfMemory, NoThread, Unfinished, Faults, Output}
+use Rattle.source_views.specs.Failures.{Flushes, has_fault, status_of}
+use Rattle.source_views.specs.declared.failures.Failure.{Failure}
+use Rattle.source_views.specs.declared.failures.Failure.TheVariants.{TooManyFiles, Unreadable, TooLarge, OutOfMemory, NoThread, Unfinished, Faults, Output}
 use Rattle.flame_tool.specs.Runs.{FailsUntouched}
 use Rattle.flame_tool.specs.StrictRuns.{HasPlainFault}
 use Rattle.flame_tool.specs.checked.Failures.{FailsStrictly, FailsToShow, KeepsOutput, exit_status}

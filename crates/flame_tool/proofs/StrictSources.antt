@@ -14,7 +14,7 @@ use Rattle.run_options.specs.declared.options.Options.{Options}
 use Rattle.profile_tables.specs.Samples.{read_pprof}
 use Rattle.source_lists.specs.Sources.{asked_rest, asked_rests}
 use Rattle.source_lists.specs.Strictness.{fault_of_rest, source_fault}
-use Rattle.opened_sources.specs.Failures.{ends_in_fault}
+use Rattle.source_views.specs.Failures.{ends_in_fault}
 use Rattle.flame_tool.specs.StrictRuns.{has_strict_fault}
 
 none_of : {A : Type 0} (found : Option A) → is_some found ≡ false → found ≡ None

@@ -8,8 +8,8 @@ use Rattle.stack_core.specs.Reading.{Rest}
 use Rattle.run_options.specs.declared.formats.Format.{Format}
 use Rattle.ring_collect.specs.Collection.{AreWhole, seen_as_rest}
 use Rattle.source_lists.specs.Sources.{asked_rests}
-use Rattle.opened_sources.specs.Messages.{said_of_each}
-use Rattle.opened_sources.proofs.MessageTexts.{said_of_more, said_of_seen}
+use Rattle.source_views.specs.Messages.{said_of_each}
+use Rattle.source_views.proofs.MessageTexts.{said_of_more, said_of_seen}
 use Rattle.flame_tool.specs.checked.Saying.{TellsEndings}
 
 -- the endings of lists are those of what was read

@@ -26,10 +26,10 @@ use Rattle.flame_tool.specs.Runs.{HasFault, IsFault, Shows, ShowsFront, ShowsSam
 use Rattle.flame_tool.specs.StrictRuns.{HasPlainFault}
 use Rattle.flame_tool.specs.TypeRuns.{HasTableFault, ShowsTypes, ShowsTypesFront, known_profile, table_fault}
 use Rattle.flame_tool.specs.checked.Failures.{Fails, KeepsOutput, TellsGrowth}
-use Rattle.opened_sources.specs.Failures.{Sends, status_of}
+use Rattle.source_views.specs.Failures.{Sends, status_of}
 use Rattle.flame_tool.specs.checked.TypeFailures.{FailsTypes}
-use Rattle.opened_sources.specs.declared.failures.Failure.{Failure}
-use Rattle.opened_sources.specs.declared.failures.Failure.TheVariants.{TooManyFiles, Unreadable, TooLarge, OutOfMemory, NoThread, Unfinished, Faults, Output}
+use Rattle.source_views.specs.declared.failures.Failure.{Failure}
+use Rattle.source_views.specs.declared.failures.Failure.TheVariants.{TooManyFiles, Unreadable, TooLarge, OutOfMemory, NoThread, Unfinished, Faults, Output}
 
 -- ---- a profile with a fault in its tables is read up to that fault
 

@@ -11,9 +11,9 @@ use Rattle.flame_tool.specs.TypeRuns.{HasTableFault, ShowsTypes}
 use Rattle.flame_tool.specs.checked.Failures.{Fails, KeepsOutput, exit_status}
 use Rattle.flame_tool.specs.checked.TypeFailures.{FailsTypes}
 use Rattle.flame_tool.proofs.ExitStatuses.{not_zero}
-use Rattle.opened_sources.specs.Failures.{Flushes}
-use Rattle.opened_sources.specs.declared.failures.Failure.{Failure}
-use Rattle.opened_sources.specs.declared.failures.Failure.TheVariants.{TooManyFiles, Unreadable, TooLarge, OutOfMemory, NoThread, Unfinished, Faults, Output}
+use Rattle.source_views.specs.Failures.{Flushes}
+use Rattle.source_views.specs.declared.failures.Failure.{Failure}
+use Rattle.source_views.specs.declared.failures.Failure.TheVariants.{TooManyFiles, Unreadable, TooLarge, OutOfMemory, NoThread, Unfinished, Faults, Output}
 
 -- ---- sources with a fault are not all clean
 

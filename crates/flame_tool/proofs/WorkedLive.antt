@@ -7,8 +7,8 @@ use Rattle.clap.specs.Walk.{Text}
 use Rattle.folded_lines.proofs.Computing.{computing}
 use Rattle.byte_io.specs.declared.piece_output.PieceFault.TheVariants as piece
 use Rattle.command_line.specs.Plans.{plan_of}
-use Rattle.opened_sources.specs.Messages.{message_of_failure}
-use Rattle.opened_sources.specs.declared.failures.Failure.TheVariants.{Output}
+use Rattle.source_views.specs.Messages.{message_of_failure}
+use Rattle.source_views.specs.declared.failures.Failure.TheVariants.{Output}
 use Rattle.flame_tool.specs.ToldLive.{said_of_streams, said_of_texts}
 
 -- what words ask to be said of texts that are read to their ends

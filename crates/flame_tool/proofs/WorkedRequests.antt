@@ -9,7 +9,7 @@ use Rattle.clap.specs.Walk.{Text}
 use Rattle.stack_core.specs.Reading.{Rest}
 use Rattle.folded_lines.proofs.Computing.{computing}
 use Rattle.merged_stacks.specs.Merged.{merged, stacks_of, sum_at}
-use Rattle.sent_views.specs.Facts.{told_whole}
+use Rattle.flame_tool.specs.Facts.{told_whole}
 use Rattle.flame_tool.specs.KnownFacts.{facts_of, known_sources, wanted_rests}
 use Rattle.flame_tool.specs.Requests.{asked_plan}
 use Rattle.flame_tool.specs.Runs.{wanted_lists}

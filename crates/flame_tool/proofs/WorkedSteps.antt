@@ -3,7 +3,7 @@ use Rattle.std.proofs.Common.{◌≡◌, ◌&&◌, not, true, refl, [], ◌∷�
 use Rattle.clap.specs.Walk.{Text}
 use Rattle.stack_core.specs.declared.endings.ReadKind.TheVariants as kind
 use Rattle.folded_lines.specs.declared.strictness.StrictKind.TheVariants as strict
-use Rattle.opened_sources.specs.declared.failures.Failure.TheVariants as failure
+use Rattle.source_views.specs.declared.failures.Failure.TheVariants as failure
 use Rattle.byte_io.specs.declared.refusals.Refusal.TheVariants as refusal
 use Rattle.profile_messages.specs.declared.types.SampleType.{SampleType}
 use Rattle.flame_tool.specs.NextSteps.{begins_profile, next_step}

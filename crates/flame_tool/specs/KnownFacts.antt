@@ -9,7 +9,7 @@ use Rattle.source_lists.specs.OmittedNames.{shown_rests}
 use Rattle.source_lists.specs.Sources.{all_found, asked_rests, whole_weight}
 use Rattle.source_lists.specs.Types.{types_of}
 use Rattle.command_line.specs.declared.plans.Plan.{Plan}
-use Rattle.sent_views.specs.declared.run_facts.RunFacts.{RunFacts}
+use Rattle.flame_tool.specs.declared.run_facts.RunFacts.{RunFacts}
 
 -- the format and the bytes of a file, whose name says its format unless one was asked for
 abbrev pub bytes_at : Option Format → (List ℕ → Option (List ℕ)) → List ℕ → Option (Format × List ℕ)

@@ -16,10 +16,10 @@ use Rattle.command_line.specs.declared.plans.Plan.{Plan}
 use Rattle.command_line.specs.declared.plans.PlanFault.{PlanFault}
 use Rattle.command_line.specs.declared.plans.PlanFault.TheVariants as fault
 use Rattle.function_sums.specs.declared.call_sides.CallSide.TheVariants.{Callers, Callees}
-use Rattle.opened_sources.specs.Messages.{Tells, message_of_failure}
-use Rattle.opened_sources.specs.declared.failures.Failure.TheVariants.{TooManyFiles}
-use Rattle.sent_views.specs.Pages.{called_text, page_text, peeked_text, picture_text, told_in}
-use Rattle.sent_views.specs.declared.run_facts.RunFacts.{RunFacts}
+use Rattle.source_views.specs.Messages.{Tells, message_of_failure}
+use Rattle.source_views.specs.declared.failures.Failure.TheVariants.{TooManyFiles}
+use Rattle.flame_tool.specs.Pages.{called_text, page_text, peeked_text, picture_text, told_in}
+use Rattle.flame_tool.specs.declared.run_facts.RunFacts.{RunFacts}
 use Rattle.source_views.specs.Texts.{IsOrderless, told_text, view_text}
 use Rattle.flame_tool.specs.KnownFacts.{facts_of, known_sources, wanted_rests}
 use Rattle.flame_tool.specs.LiveRuns.{AreFaultless, HasTextFault, ShowsAllOf, ShowsFirstOf, ShowsSomeOf, known_texts, live_texts, read_texts}

@@ -8,9 +8,9 @@ use Rattle.clap.specs.Walk.{Text}
 use Rattle.stack_core.specs.declared.endings.ReadKind.{ReadKind}
 use Rattle.stack_core.specs.declared.endings.ReadKind.TheVariants as kind
 use Rattle.byte_io.specs.declared.piece_output.PieceFault.TheVariants as piece
-use Rattle.opened_sources.specs.Names.{source_name}
-use Rattle.opened_sources.specs.declared.failures.Failure.{Failure}
-use Rattle.opened_sources.specs.declared.failures.Failure.TheVariants as failure
+use Rattle.source_views.specs.Names.{source_name}
+use Rattle.source_views.specs.declared.failures.Failure.{Failure}
+use Rattle.source_views.specs.declared.failures.Failure.TheVariants as failure
 use Rattle.folded_lines.specs.declared.strictness.StrictKind.{StrictKind}
 use Rattle.folded_lines.specs.declared.strictness.StrictKind.TheVariants as strict
 use Rattle.byte_io.specs.declared.refusals.Refusal.{Refusal}

@@ -14,7 +14,7 @@ use Rattle.command_line.specs.declared.plans.Plan.{Plan}
 use Rattle.command_line.specs.declared.plans.View.{View}
 use Rattle.command_line.specs.declared.plans.View.TheVariants.{Fold, Graph, Chart, Pairs, PairBoxes, Top, Diff}
 use Rattle.view_texts.specs.Fold.{fold_text}
-use Rattle.sent_views.specs.Pages.{shown_text}
+use Rattle.flame_tool.specs.Pages.{shown_text}
 use Rattle.source_views.specs.Texts.{grown_names}
 use Rattle.run_options.specs.declared.formats.Format.{Format}
 use Rattle.flame_tool.specs.KnownFacts.{facts_of, wanted_rests}

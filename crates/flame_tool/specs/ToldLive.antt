@@ -5,10 +5,10 @@ use Rattle.byte_io.specs.declared.piece_output.PieceFault.{PieceFault}
 use Rattle.folded_lines.specs.Reading.{read_folded}
 use Rattle.folded_lines.specs.StrictReading.{strict_fault}
 use Rattle.command_line.specs.declared.plans.Plan.{Plan}
-use Rattle.opened_sources.specs.Failures.{IsOpening}
-use Rattle.opened_sources.specs.Messages.{Tells, message_of_ending, message_of_failure, message_of_strict_fault, said_of_each}
-use Rattle.opened_sources.specs.declared.failures.Failure.{Failure}
-use Rattle.opened_sources.specs.declared.failures.Failure.TheVariants.{TooManyFiles, Unreadable, TooLarge, OutOfMemory, NoThread, Unfinished, Faults, Output}
+use Rattle.source_views.specs.Failures.{IsOpening}
+use Rattle.source_views.specs.Messages.{Tells, message_of_ending, message_of_failure, message_of_strict_fault, said_of_each}
+use Rattle.source_views.specs.declared.failures.Failure.{Failure}
+use Rattle.source_views.specs.declared.failures.Failure.TheVariants.{TooManyFiles, Unreadable, TooLarge, OutOfMemory, NoThread, Unfinished, Faults, Output}
 
 -- ---- where all was read
 

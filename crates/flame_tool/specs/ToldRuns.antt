@@ -3,9 +3,9 @@ use Rattle.std.specs.Prelude.{◌≡◌, ◌++◌, ℕ, List, [], Option, None, 
 use Rattle.stack_core.specs.declared.endings.SourceEnd.TheVariants as ends
 use Rattle.run_options.specs.declared.formats.Format.{Format}
 use Rattle.command_line.specs.declared.plans.Plan.{Plan}
-use Rattle.opened_sources.specs.Messages.{Tells, message_of_ending, message_of_failure, message_of_strict_fault, said_of_each}
-use Rattle.opened_sources.specs.Failures.{status_of}
-use Rattle.opened_sources.specs.declared.failures.Failure.{Failure}
+use Rattle.source_views.specs.Messages.{Tells, message_of_ending, message_of_failure, message_of_strict_fault, said_of_each}
+use Rattle.source_views.specs.Failures.{status_of}
+use Rattle.source_views.specs.declared.failures.Failure.{Failure}
 use Rattle.source_lists.specs.Sources.{asked_rests}
 use Rattle.source_lists.specs.Strictness.{source_fault}
 use Rattle.source_views.specs.Texts.{growth_line}

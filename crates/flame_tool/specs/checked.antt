@@ -1,11 +1,13 @@
 -- Definitions that no public contract cites: not to be believed, but checked with the code that cites them.
 pub mod Failures
+pub mod Frames
 pub mod LiveEnds
 pub mod LivePlans
 pub mod LiveSaying
 pub mod LiveStreams
 pub mod RenewalProps
 pub mod Renewals
+pub mod SaidOfSources
 pub mod Saying
 pub mod Showed
 pub mod Telling

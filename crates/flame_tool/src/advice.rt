@@ -5,9 +5,9 @@ ghost use Rattle.std.specs.Prelude.{◌≡◌, false};
 use crate::looks::look;
 use crate::next_steps::{Trouble, next_step};
 use byte_io::{Outlet, Refusal, send};
-use opened_sources::Failure;
 use run_options::Filter;
 use source_lists::Input;
+use source_views::Failure;
 use stack_core::{SourceEnd, SourceList};
 use std::alloc::Global;
 

@@ -9,7 +9,7 @@ use crate::program::run;
 use crate::renewed_file::{RenewedFile, close_renewal};
 use byte_io::{CountedWriter, Files, Outlet, Outputs, PieceFault, Streams, send};
 use command_line::{Destination, Plan, asked_destination};
-use opened_sources::{Failure, report_failure};
+use source_views::{Failure, report_failure};
 use std::alloc::{AllocError, Global};
 use std::sync::Wait;
 use std::thread::Threads;

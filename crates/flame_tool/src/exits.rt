@@ -1,13 +1,13 @@
 //! How a run ends: the exit status, and what is said of it.
 ghost use Rattle.std.specs.Prelude.{◌≡◌, IfErr, OnOk, false, map, string_bytes};
-ghost use Rattle.opened_sources.specs.Messages.{Tells, message_of_failure};
+ghost use Rattle.source_views.specs.Messages.{Tells, message_of_failure};
 ghost use Rattle.flame_tool.specs.KnownRuns.{RefusalShows, change};
 ghost use Rattle.flame_tool.specs.checked.Failures.{exit_status};
 
 use crate::advice::Advice;
 use byte_io::{Outlet, PieceFault, Refusal, send};
 use command_line::PlanFault;
-use opened_sources::{Failure, report_failure};
+use source_views::{Failure, report_failure};
 use std::alloc::Global;
 
 // Says what is wrong with the words, or the help that they ask for.

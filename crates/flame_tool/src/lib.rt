@@ -1,10 +1,11 @@
 //! Flame graphs and flame charts of recorded stack samples: sources are opened and read, their samples
-//! collected and merged, laid out as boxes, and rendered as text.
+//! collected and merged, laid out as boxes, and sent as the texts, pages and pictures of views.
 #![tactic(auto)]
 
 mod advice;
 mod delivery;
 mod exits;
+mod headings;
 mod hosts;
 mod live_graphs;
 mod live_run;
@@ -16,7 +17,11 @@ mod program;
 mod progress;
 mod renewed_file;
 mod reports;
+mod run_facts;
 mod sent_lists;
+mod sent_pages;
+mod sent_pictures;
+mod sent_texts;
 mod step_commands;
 mod types_run;
 mod views_run;
@@ -34,13 +39,14 @@ pub use delivery::deliver;
 pub use live_run::{live, live_plan};
 pub use merging::{Gathered, Snapshot, TreeSink};
 pub use next_steps::{Seen, Trouble, next_step};
-pub use opened_sources::{Failure, SOURCE_COUNT};
-pub use page_views::{Heading, PageView, Source as PageSource, render_page_data};
+pub use page_texts::Source as PageSource;
 pub use program::run;
 pub use ring_collect::CollectFault;
 pub use run_options::{
     Filter, Format, FunctionOrder, Naming, Options, Pick, RingSize, Width, format_of,
 };
 pub use source_lists::{Source, StrictKind};
-pub use source_views::{Views, laws, render, views};
+pub use source_views::{
+    Failure, Heading, PageView, SOURCE_COUNT, Views, laws, render, render_page_data, views,
+};
 pub use stack_core::{Gate, OpenGate, ReadKind, SourceEnd, SourceList, Turn};

@@ -3,7 +3,7 @@ ghost use Rattle.std.specs.Prelude.{◌≡◌, ◌≢◌, ◌≤◌, ◌<◌, fa
 ghost use Rattle.std.specs.List.{list_any};
 ghost use Rattle.std.specs.Io.KnownBytes.{Keeps};
 ghost use Rattle.command_line.specs.Plans.{IsOfStreams, plan_of};
-ghost use Rattle.opened_sources.specs.Messages.{Tells};
+ghost use Rattle.source_views.specs.Messages.{Tells};
 ghost use Rattle.flame_tool.specs.KnownRuns.{LiveShows, as_streams, change};
 ghost use Rattle.flame_tool.specs.LiveRuns.{known_texts};
 ghost use Rattle.flame_tool.specs.Runs.{FailsUntouched};
@@ -18,8 +18,8 @@ use crate::live_streams::{StreamReader, open_streams};
 use byte_io::{Outlet, Streams};
 use command_line::{Form, Plan, PlanFault, plan};
 use folded_lines::FoldedStream;
-use opened_sources::{Failure, report_awaited_input, report_failure};
 use run_options::Format;
+use source_views::{Failure, report_awaited_input, report_failure};
 use std::alloc::{AllocError, Global};
 use std::sync::Wait;
 use std::thread::Threads;

@@ -1,7 +1,7 @@
 //! The streams of a live run, opened.
 ghost use Rattle.std.specs.Prelude.{◌≡◌, ◌≢◌, ◌<◌, ◌≤◌, ◌^◌, ◌↔◌, [], ◌∷◌, ◌++◌, true, All, IfErr, IfOk, IfSome, IsErr, IsErrOf, IsNone, IsSomeAnd, OnOk, length, map, string_bytes};
 ghost use Rattle.std.specs.List.{list_any};
-ghost use Rattle.opened_sources.specs.Failures.{IsOfLoad, IsOpening};
+ghost use Rattle.source_views.specs.Failures.{IsOfLoad, IsOpening};
 ghost use Rattle.stack_core.specs.Reading.{Rest};
 ghost use Rattle.stack_core.specs.RowReading.{GivesSome};
 ghost use Rattle.flame_tool.specs.ToldLive.{IsMissing};
@@ -9,7 +9,7 @@ ghost use Rattle.flame_tool.specs.checked.LiveStreams.{AreOpened, GivesStream, R
 
 use byte_io::{Inlet, Streams};
 use folded_lines::FoldedStream;
-use opened_sources::{Failure, SOURCE_COUNT};
+use source_views::{Failure, SOURCE_COUNT};
 use stack_core::RowReader;
 use std::alloc::{AllocError, Global};
 

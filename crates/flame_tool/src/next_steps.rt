@@ -6,9 +6,9 @@ use crate::step_commands::{
     can_pipe, command_text, format_text, is_quotable, pipe_word, source_word, type_words,
 };
 use byte_io::{PieceFault, Refusal};
-use opened_sources::{Failure, path_of};
 use profile_messages::SampleType;
 use source_lists::StrictKind;
+use source_views::{Failure, path_of};
 use stack_core::{Listed, ReadKind};
 use std::alloc::{AllocError, Global};
 

@@ -16,8 +16,8 @@ use crate::types_run::show_types;
 use crate::views_run::show_views;
 use byte_io::{Files, Outlet};
 use command_line::{Form, Plan};
-use opened_sources::{Failure, report_awaited_input};
 use run_options::Format;
+use source_views::{Failure, report_awaited_input};
 use std::sync::Wait;
 use std::thread::Threads;
 

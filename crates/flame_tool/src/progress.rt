@@ -5,7 +5,7 @@ ghost use Rattle.std.specs.Prelude.{◌≡◌};
 
 use byte_io::{Outlet, send};
 use itoa::Buffer;
-use opened_sources::path_of;
+use source_views::path_of;
 use stack_core::{Ledger, NoSink, RowSink};
 use std::alloc::{AllocError, Global};
 

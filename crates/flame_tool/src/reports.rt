@@ -1,15 +1,15 @@
 //! What a run says of its sources on standard error.
 
 ghost use Rattle.std.specs.Prelude.{◌≡◌, ◌==◌, false, length, map, not, string_bytes};
-ghost use Rattle.opened_sources.specs.Messages.{Tells, message_of_strict_fault, said_of_each};
+ghost use Rattle.source_views.specs.Messages.{Tells, message_of_strict_fault, said_of_each};
 ghost use Rattle.flame_tool.specs.checked.Saying.{TellsEndings};
 
 use crate::advice::Advice;
 use crate::next_steps::Trouble;
 use byte_io::{Outlet, send};
-use opened_sources::{report_ending, report_strict_fault};
 use run_options::Filter;
 use source_lists::StrictFault;
+use source_views::{report_ending, report_strict_fault};
 use stack_core::SourceList;
 use std::alloc::Global;
 

@@ -3,24 +3,23 @@ ghost use Rattle.std.specs.Prelude.{◌≡◌, ◌≤◌, IfOk, IfSome, IfErr, O
 ghost use Rattle.std.specs.Io.KnownBytes.{Appends};
 ghost use Rattle.merged_stacks.specs.Timeline.{samples_of};
 ghost use Rattle.command_line.specs.Plans.{IsComparison};
-ghost use Rattle.sent_views.specs.Pages.{shown_text};
+ghost use Rattle.flame_tool.specs.Pages.{shown_text};
 ghost use Rattle.flame_tool.specs.checked.Failures.{FailsToShow};
-ghost use Rattle.opened_sources.specs.Failures.{has_fault, Flushes, Sends};
-ghost use Rattle.opened_sources.specs.Messages.{Tells};
+ghost use Rattle.source_views.specs.Failures.{has_fault, Flushes, Sends};
+ghost use Rattle.source_views.specs.Messages.{Tells};
 ghost use Rattle.source_views.specs.Texts.{growth_line};
 
 use crate::hosts::Host;
 use crate::reports::report_growth;
+use crate::run_facts::RunFacts;
+use crate::sent_pages::send_asked_page;
+use crate::sent_pictures::{AskedPicture, send_asked_picture};
+use crate::sent_texts::{AskedCalls, send_asked_calls, send_asked_peek, send_asked_view};
 use byte_io::Outlet;
 use command_line::{Form, Plan};
 use function_sums::CallSide;
-use opened_sources::{Failure, any_fault};
-use sent_views::{
-    AskedCalls, AskedPicture, RunFacts, send_asked_calls, send_asked_page, send_asked_peek,
-    send_asked_picture, send_asked_view,
-};
 use source_lists::SourceLists;
-use source_views::{InThreads, growth_line};
+use source_views::{Failure, InThreads, any_fault, growth_line};
 use std::alloc::Global;
 use std::thread::Threads;
 

@@ -3,7 +3,7 @@ ghost use Rattle.std.specs.Prelude.{◌≡◌, false, IfErr, IfOk, IfSome, IsErr
 ghost use Rattle.view_texts.specs.Types.{types_text};
 ghost use Rattle.flame_tool.specs.TypeRuns.{known_profile, ShowsTypes};
 ghost use Rattle.flame_tool.specs.checked.Failures.{KeepsOutput};
-ghost use Rattle.opened_sources.specs.Failures.{Flushes, Sends};
+ghost use Rattle.source_views.specs.Failures.{Flushes, Sends};
 ghost use Rattle.flame_tool.specs.checked.Saying.{SaidOfTypes};
 ghost use Rattle.flame_tool.specs.checked.TypeFailures.{FailsTypes};
 
@@ -11,9 +11,8 @@ use crate::advice::Advice;
 use crate::next_steps::Trouble;
 use byte_io::{Files, Outlet};
 use command_line::Plan;
-use opened_sources::{Failure, open_named, report_ending};
 use profile_tables::{SampleTypes, TableFault, sample_types};
-use source_views::send_text;
+use source_views::{Failure, open_named, report_ending, send_text};
 use stack_core::SourceEnd;
 use std::alloc::Global;
 use view_texts::TypesText;

@@ -1,7 +1,19 @@
+-- The definitions that the contracts of function_sums cite.
+pub mod CallTexts
 pub mod Calls
+pub mod ChangeJson
+pub mod ChangeTable
+pub mod Columns
+pub mod DiffTexts
 pub mod FunctionChanges
+pub mod FunctionJson
 pub mod FunctionList
 pub mod FunctionSums
+pub mod FunctionTable
+pub mod GrownLine
 pub mod Growth
+pub mod Pieces
 pub mod Tables
+pub mod Told
+pub mod TopTexts
 pub mod checked

@@ -8,7 +8,7 @@ use Rattle.function_sums.specs.declared.sums.FunctionSum.{FunctionSum}
 use Rattle.function_sums.proofs.FunctionList.{listed_alone}
 use Rattle.run_options.specs.declared.orders.FunctionOrder.TheVariants.{Own}
 use Rattle.page_texts.specs.Document.{document_text}
-use Rattle.page_views.specs.Pages.{growing_page}
+use Rattle.source_views.specs.Pages.{growing_page}
 use Rattle.merging.specs.Snapshots.{first_samples, samples_of_pairs}
 use Rattle.live_lines.specs.Lines.{line_now}
 use Rattle.live_lines.specs.checked.Merges.{has_more}

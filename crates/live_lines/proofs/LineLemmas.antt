@@ -17,7 +17,7 @@ use Rattle.merging.specs.Snapshots.{samples_of_pairs, snapshot_places}
 use Rattle.merging.specs.checked.Merging.{is_due}
 use Rattle.merging.proofs.SnapshotLemmas.{places-push, places_within}
 use Rattle.page_texts.specs.Document.{document_text}
-use Rattle.page_views.specs.Pages.{growing_page}
+use Rattle.source_views.specs.Pages.{growing_page}
 use Rattle.live_lines.specs.Frames.{frame_at, frame_of}
 use Rattle.live_lines.specs.Lines.{live_line_at, live_lines, moment_at}
 use Rattle.live_lines.specs.declared.form.LiveForm.{LiveForm}

@@ -3,9 +3,9 @@ use Rattle.std.proofs.Common.{◌≡◌, ℕ, List, [], ◌∷◌, ◌++◌, cod
 use Rattle.std.specs.Fmt.{digits}
 use Rattle.sample_tables.specs.declared.samples.Sample.{Sample}
 use Rattle.function_sums.specs.FunctionList.{functions_of}
-use Rattle.sum_texts.specs.Columns.{lines_text}
-use Rattle.sum_texts.specs.FunctionTable.{functions_table}
-use Rattle.weight_texts.specs.WeightTexts.{weight_text}
+use Rattle.function_sums.specs.Columns.{lines_text}
+use Rattle.function_sums.specs.FunctionTable.{functions_table}
+use Rattle.view_texts.specs.WeightTexts.{weight_text}
 use Rattle.live_lines.specs.Frames.{clear_frame, cut_lines, frame_at, last_table, wrap_lines}
 use Rattle.live_lines.specs.Terminal.{plain_text}
 

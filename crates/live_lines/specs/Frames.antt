@@ -5,9 +5,9 @@ use Rattle.std.specs.List.{flat_map}
 use Rattle.sample_tables.specs.declared.samples.Sample.{Sample}
 use Rattle.function_sums.specs.FunctionList.{functions_of}
 use Rattle.run_options.specs.declared.orders.FunctionOrder.TheVariants.{Own}
-use Rattle.sum_texts.specs.Told.{nothing_told}
-use Rattle.sum_texts.specs.TopTexts.{top_table}
-use Rattle.weight_texts.specs.WeightTexts.{weight_text}
+use Rattle.function_sums.specs.Told.{nothing_told}
+use Rattle.function_sums.specs.TopTexts.{top_table}
+use Rattle.view_texts.specs.WeightTexts.{weight_text}
 use Rattle.merging.specs.Snapshots.{first_samples, samples_of_pairs, snapshot_places}
 use Rattle.live_lines.specs.Terminal.{plain_text}
 

@@ -3,7 +3,7 @@ use Rattle.std.specs.Prelude.{ℕ, Bool, true, false, List, ◌++◌, Some, leng
 use Rattle.std.specs.List.{flat_map}
 use Rattle.sample_tables.specs.declared.samples.Sample.{Sample}
 use Rattle.page_texts.specs.Document.{document_text}
-use Rattle.page_views.specs.Pages.{growing_page}
+use Rattle.source_views.specs.Pages.{growing_page}
 use Rattle.merging.specs.Snapshots.{first_samples, samples_of_pairs, snapshot_places}
 
 -- the page of the first m pairs, of which more are to come

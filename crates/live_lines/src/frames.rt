@@ -8,11 +8,10 @@ ghost use Rattle.run_options.specs.declared.orders.FunctionOrder.TheVariants.{Ow
 ghost use Rattle.live_lines.specs.Frames.{clear_frame, frame_heading, frame_of, frame_table, sources_word, table_of};
 
 use crate::terminal::append_plain;
-use function_sums::FunctionSum;
+use function_sums::{FunctionSum, Telling, append_sum_table};
 use itoa::Buffer;
 use std::alloc::{AllocError, Global};
-use sum_texts::{Telling, append_sum_table};
-use weight_texts::append_weight;
+use view_texts::append_weight;
 
 /// How many functions are shown.
 const ROWS: u64 = 10;

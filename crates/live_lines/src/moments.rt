@@ -18,7 +18,7 @@ use flame_layout::{Chart, Width, draw_merged};
 use function_sums::{FunctionSum, Order, function_sums};
 use merged_stacks::{Alone, MergedStacks};
 use merging::RowMerge;
-use page_views::send_growing_page;
+use source_views::send_growing_page;
 use std::alloc::{AllocError, Global};
 use view_texts::{JsonLine, Scale, drawn_line, drawn_snapshot_line};
 

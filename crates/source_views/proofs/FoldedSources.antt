@@ -19,11 +19,11 @@ use Rattle.merging.proofs.BackLemmas.{samples_back}
 use Rattle.function_sums.specs.FunctionList.{changes_of}
 use Rattle.function_sums.specs.declared.changes.ChangeOrder.{ChangeOrder}
 use Rattle.function_sums.proofs.FunctionList.{same_changes, same_functions}
-use Rattle.sum_texts.specs.ChangeJson.{changes_line}
-use Rattle.sum_texts.specs.ChangeTable.{changes_table, shares_table}
-use Rattle.sum_texts.specs.FunctionJson.{functions_line}
-use Rattle.sum_texts.specs.FunctionTable.{functions_table}
-use Rattle.sum_texts.specs.Told.{nothing_told}
+use Rattle.function_sums.specs.ChangeJson.{changes_line}
+use Rattle.function_sums.specs.ChangeTable.{changes_table, shares_table}
+use Rattle.function_sums.specs.FunctionJson.{functions_line}
+use Rattle.function_sums.specs.FunctionTable.{functions_table}
+use Rattle.function_sums.specs.Told.{nothing_told}
 use Rattle.command_line.specs.declared.plans.DiffTable.{DiffTable}
 use Rattle.command_line.specs.declared.plans.TopTable.{TopTable}
 use Rattle.command_line.specs.declared.plans.View.{View}

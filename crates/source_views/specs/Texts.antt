@@ -12,14 +12,14 @@ use Rattle.view_texts.specs.Json.{boxes_line, snapshot_line, pair_boxes_line}
 use Rattle.view_texts.specs.Pairs.{pairs_text}
 use Rattle.merging.specs.Snapshots.{snapshot_samples, snapshot_places}
 use Rattle.merging.specs.Sums.{all_samples}
-use Rattle.sum_texts.specs.CallTexts.{calls_line, calls_table}
+use Rattle.function_sums.specs.CallTexts.{calls_line, calls_table}
 use Rattle.function_sums.specs.FunctionList.{changes_of}
 use Rattle.function_sums.specs.Growth.{grown}
 use Rattle.function_sums.specs.declared.changes.ChangeOrder.{ChangeOrder}
-use Rattle.sum_texts.specs.DiffTexts.{diff_table, diff_line, share_table, wholes}
-use Rattle.sum_texts.specs.GrownLine.{grown_line}
-use Rattle.sum_texts.specs.Told.{Told, nothing_told}
-use Rattle.sum_texts.specs.TopTexts.{top_table, top_line}
+use Rattle.function_sums.specs.DiffTexts.{diff_table, diff_line, share_table, wholes}
+use Rattle.function_sums.specs.GrownLine.{grown_line}
+use Rattle.function_sums.specs.Told.{Told, nothing_told}
+use Rattle.function_sums.specs.TopTexts.{top_table, top_line}
 use Rattle.function_sums.specs.declared.call_sides.CallSide.{CallSide}
 use Rattle.function_sums.specs.declared.call_sides.CallSide.TheVariants.{Callers, Callees}
 use Rattle.command_line.specs.Plans.{limit_of}

@@ -6,22 +6,21 @@ ghost use Rattle.flame_layout.specs.Paths.{SameOwn};
 ghost use Rattle.merged_stacks.specs.RankedStacks.{ranked_samples};
 ghost use Rattle.merged_stacks.specs.Timeline.{samples_of};
 ghost use Rattle.merging.specs.Sums.{all_samples};
-ghost use Rattle.opened_sources.specs.Failures.{Flushes, Sends};
+ghost use Rattle.source_views.specs.Failures.{Flushes, Sends};
 ghost use Rattle.source_views.specs.Texts.{calls_text, peek_text};
 ghost use Rattle.function_sums.specs.Calls.{calls_of};
 ghost use Rattle.function_sums.specs.FunctionSums.{sums_of};
-ghost use Rattle.sum_texts.specs.Told.{told_of};
+ghost use Rattle.function_sums.specs.Told.{told_of};
 
+use crate::failures::Failure;
 use crate::shown::merge_given;
 use crate::workers::{Workers, send_text};
 use byte_io::{Chain, Outlet, Pieces};
 use command_line::CallTable;
-use function_sums::{CallSide, FunctionSum, first_calls};
+use function_sums::{CallSide, FunctionSum, SumLine, Table, Telling, first_calls};
 use merged_stacks::MergedStacks;
-use opened_sources::Failure;
 use source_lists::SourceLists;
 use std::alloc::{AllocError, Global};
-use sum_texts::{SumLine, Table, Telling};
 
 /// Sends a function and its callers or its callees, as a table or as a line of JSON.
 pub fn send_calls<H: Workers, W: Outlet>(

@@ -1,22 +1,21 @@
 //! The text of the changes of functions, sent while it is made.
 ghost use Rattle.std.specs.Prelude.{◌≡◌, ◌<◌, ◌^◌, length};
 ghost use Rattle.merged_stacks.specs.Timeline.{samples_of, total_weight};
-ghost use Rattle.opened_sources.specs.Failures.{Flushes, Sends};
+ghost use Rattle.source_views.specs.Failures.{Flushes, Sends};
 ghost use Rattle.source_views.specs.Texts.{diff_text, order_of};
 ghost use Rattle.stack_core.specs.Interleaving.{list_of};
-ghost use Rattle.sum_texts.specs.DiffTexts.{wholes};
-ghost use Rattle.sum_texts.specs.Told.{told_of};
+ghost use Rattle.function_sums.specs.DiffTexts.{wholes};
+ghost use Rattle.function_sums.specs.Told.{told_of};
 
+use crate::failures::Failure;
 use crate::functions::change_functions;
 use crate::workers::send_text;
 use byte_io::Outlet;
 use command_line::{DiffTable, TopTable};
-use function_sums::{Change, ChangeOrder};
-use opened_sources::Failure;
+use function_sums::{Change, ChangeLine, ChangeOrder, Table, Telling};
 use source_lists::SourceLists;
 use stack_core::SourceList;
 use std::alloc::Global;
-use sum_texts::{ChangeLine, Table, Telling};
 
 // Sends the greatest changes from the first source to the second.
 pub(crate) fn send_diff<W: Outlet>(

@@ -4,16 +4,15 @@ ghost use Rattle.command_line.specs.Plans.{IsComparison};
 ghost use Rattle.merged_stacks.specs.Timeline.{samples_of, total_weight};
 ghost use Rattle.source_views.specs.Texts.{diff_growth, grown_over, growth_line, order_of};
 ghost use Rattle.stack_core.specs.Interleaving.{list_of};
-ghost use Rattle.sum_texts.specs.GrownLine.{grown_line};
+ghost use Rattle.function_sums.specs.GrownLine.{grown_line};
 
 use crate::change_texts::{order_of, wholes};
 use crate::functions::change_functions;
 use command_line::{DiffTable, View};
-use function_sums::grown;
+use function_sums::{grown, grown_line};
 use source_lists::SourceLists;
 use stack_core::SourceList;
 use std::alloc::{AllocError, Global};
-use sum_texts::grown_line;
 
 /// The line on the functions whose share of own weight grew by more than the view's limit, if it has one. It is
 /// empty where there is no such function.

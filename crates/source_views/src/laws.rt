@@ -13,13 +13,13 @@ ghost use Rattle.source_views.specs.SumViews.{SeesSums};
 ghost use Rattle.source_views.specs.Texts.{view_text};
 
 pub use folded_lines::laws::{lines_read_back, names_read_back, text_reads_as_its_parts};
-pub use function_sums::laws::{changes_are_listed, functions_are_listed, tables_are_one};
+pub use function_sums::laws::{
+    change_lines_read_back, changes_are_listed, function_lines_read_back, functions_are_listed,
+    percentages_are_rounded, tables_are_one,
+};
 pub use merging::laws::{
     all_samples_come, counts_have_each_source, counts_never_fall, lines_and_addresses_read_back,
     samples_read_back,
-};
-pub use sum_texts::laws::{
-    change_lines_read_back, function_lines_read_back, percentages_are_rounded,
 };
 pub use view_texts::laws::{
     folds_are_of_the_whole, folds_see_no_order, json_lines_read_back, merged_rows, merging_goes_on,

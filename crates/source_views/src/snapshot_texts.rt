@@ -10,16 +10,16 @@ ghost use Rattle.merged_stacks.specs.RankedStacks.{ranked_samples};
 ghost use Rattle.merged_stacks.specs.Timeline.{samples_of};
 ghost use Rattle.merging.specs.Snapshots.{snapshot_places};
 ghost use Rattle.merging.specs.Sums.{all_samples};
-ghost use Rattle.opened_sources.specs.Failures.{Flushes, Sends};
+ghost use Rattle.source_views.specs.Failures.{Flushes, Sends};
 ghost use Rattle.source_views.specs.Texts.{graph_text, snapshot_lines};
 ghost use Rattle.source_views.specs.checked.Moments.{due_line, moment_line};
 
 use crate::drawn_texts::drawn_graph;
+use crate::failures::Failure;
 use crate::workers::merge;
 use byte_io::{Outlet, PieceFault, send_pieces};
 use flame_layout::{Chart, Width, draw_merged};
 use merged_stacks::{GrowingStacks, MergedStacks, Sorting};
-use opened_sources::Failure;
 use source_lists::SourceLists;
 use std::alloc::Global;
 use view_texts::{Scale, drawn_snapshot_line};

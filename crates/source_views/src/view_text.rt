@@ -6,13 +6,14 @@ ghost use Rattle.view_texts.specs.Pairs.{pairs_text};
 ghost use Rattle.merging.specs.Sums.{all_samples};
 ghost use Rattle.command_line.specs.Plans.{IsComparison};
 ghost use Rattle.source_views.specs.Texts.{chart_text, graph_text, graph_line, pair_boxes_text, told_text, top_text, view_text};
-ghost use Rattle.sum_texts.specs.Told.{told_of};
-ghost use Rattle.opened_sources.specs.Failures.{Flushes, Sends};
+ghost use Rattle.function_sums.specs.Told.{told_of};
+ghost use Rattle.source_views.specs.Failures.{Flushes, Sends};
 ghost use Rattle.stack_core.specs.Interleaving.{list_of};
 
 use crate::change_texts::send_diff;
 use crate::drawings::lend_chart;
 use crate::drawn_texts::{drawn_chart, drawn_graph};
+use crate::failures::Failure;
 use crate::functions::weigh_functions;
 use crate::long_texts::OneOf;
 use crate::shown::Shown;
@@ -22,13 +23,12 @@ use crate::workers::{Workers, send_text};
 use byte_io::{CountedWriter, Outlet, truncate_on_error};
 use command_line::{TopTable, View};
 use flame_layout::{Width, draw_merged, draw_paired};
+use function_sums::{SumLine, Table, Telling};
 use merged_stacks::{Alone, PairedStacks};
-use opened_sources::Failure;
 use source_lists::SourceLists;
 use stack_core::SourceList;
 use std::alloc::{AllocError, Global};
 use std::mem;
-use sum_texts::{SumLine, Table, Telling};
 use view_texts::{FoldedText, PairedText, Scale, drawn_comparison_line};
 
 /// What is asked of a text.

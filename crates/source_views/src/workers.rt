@@ -5,12 +5,12 @@ ghost use Rattle.flame_layout.specs.Paths.{SameOwn};
 ghost use Rattle.merged_stacks.specs.RankedStacks.{ranked_samples};
 ghost use Rattle.merged_stacks.specs.Timeline.{samples_of};
 ghost use Rattle.merging.specs.Sums.{all_samples};
-ghost use Rattle.opened_sources.specs.Failures.{Flushes, Sends};
+ghost use Rattle.source_views.specs.Failures.{Flushes, Sends};
 
+use crate::failures::Failure;
 use crate::long_texts::LongText;
 use byte_io::{Outlet, Pieces, send_pieces, send_pieces_in_threads};
 use merged_stacks::{Alone, InThreads, MergedStacks, Sorting};
-use opened_sources::Failure;
 use source_lists::SourceLists;
 use std::alloc::{AllocError, Global};
 use std::thread::Threads;

@@ -6,9 +6,9 @@ use Rattle.std.specs.Fmt.{digits, digits_onto, digit_glyph}
 use Rattle.std.specs.Int.{abs_diff, is_in_range}
 use Rattle.std.specs.List.{list_all}
 use Rattle.std.specs.Prelude.{codes}
-use Rattle.weight_texts.proofs.Places.{ten_some}
-use Rattle.weight_texts.specs.Quotients.{comma_before, with_commas, grouped, fraction, placed, decimals, nearest, quotient_text}
-use Rattle.weight_texts.specs.Shares.{percent_text, points_sign, points_text}
+use Rattle.view_texts.proofs.Places.{ten_some}
+use Rattle.view_texts.specs.Quotients.{comma_before, with_commas, grouped, fraction, placed, decimals, nearest, quotient_text}
+use Rattle.view_texts.specs.Shares.{percent_text, points_sign, points_text}
 use Rattle.function_sums.specs.FunctionChanges.{share_after, share_before}
 use Rattle.function_sums.specs.declared.changes.Change.{Change}
 use Rattle.svg_texts.specs.Changes.{colour_by, compared_fill}

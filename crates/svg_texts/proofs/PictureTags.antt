@@ -6,7 +6,7 @@ use lib.Utf8.{encode}
 use Rattle.std.specs.List.{flat_map, list_all}
 use Rattle.std.specs.Prelude.{codes, IsUtf8}
 use Rattle.std.specs.Str.{bytes_eq}
-use Rattle.weight_texts.specs.Shares.{share_text}
+use Rattle.view_texts.specs.Shares.{share_text}
 use Rattle.flame_layout.specs.Boxes.{SeenBox}
 use Rattle.svg_texts.specs.Changes.{said_change}
 use Rattle.svg_texts.specs.Fills.{root_fill, name_fill}

@@ -9,10 +9,10 @@ use Rattle.std.specs.Int.{abs_diff, is_in_range}
 use Rattle.std.specs.List.{flat_map, list_all, AllByRecursion}
 use Rattle.std.specs.Prelude.{codes, IsUtf8}
 use Rattle.std.specs.Str.{all_scalars, bytes_eq, chars, encode_utf8_all}
-use Rattle.weight_texts.specs.Quotients.{grouped, quotient_text}
+use Rattle.view_texts.specs.Quotients.{grouped, quotient_text}
 use Rattle.function_sums.specs.declared.changes.Change.{Change}
-use Rattle.weight_texts.specs.Shares.{hundredths, points_text, share_text}
-use Rattle.weight_texts.specs.WeightTexts.{Step, step, step_of, stepped, time_steps, size_steps, unit_after, measure_of, measured_text, weight_text, change_sign, percent_change, change_text}
+use Rattle.view_texts.specs.Shares.{hundredths, points_text, share_text}
+use Rattle.view_texts.specs.WeightTexts.{Step, step, step_of, stepped, time_steps, size_steps, unit_after, measure_of, measured_text, weight_text, change_sign, percent_change, change_text}
 use Rattle.svg_texts.specs.Changes.{said_change, said_of}
 use Rattle.svg_texts.specs.Labels.{places, places_of, front, cut, change_label, count_characters, label, label_of}
 use Rattle.svg_texts.specs.Shown.{is_unseen, number_text, visible, visible_character, xml_text, shown}

@@ -4,8 +4,8 @@ use Rattle.std.specs.Prelude.{encode_utf8_all}
 use Rattle.std.specs.Fmt.{digits}
 use Rattle.std.specs.Str.{chars}
 use lib.Utf8.{encode}
-use Rattle.weight_texts.specs.Quotients.{quotient_text, decimals}
-use Rattle.weight_texts.specs.WeightTexts.{weight_text, change_text}
+use Rattle.view_texts.specs.Quotients.{quotient_text, decimals}
+use Rattle.view_texts.specs.WeightTexts.{weight_text, change_text}
 use Rattle.flame_layout.specs.Boxes.{SeenBox}
 use Rattle.svg_texts.specs.Fills.{name_fill, change_fill}
 use Rattle.svg_texts.specs.Labels.{label}

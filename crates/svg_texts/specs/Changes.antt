@@ -2,8 +2,8 @@
 use Rattle.std.specs.Prelude.{List, ℕ, Option, None, Some}
 use Rattle.function_sums.specs.FunctionChanges.{share_after, share_before}
 use Rattle.function_sums.specs.declared.changes.Change.{Change}
-use Rattle.weight_texts.specs.Shares.{hundredths, points_text}
-use Rattle.weight_texts.specs.WeightTexts.{change_text}
+use Rattle.view_texts.specs.Shares.{hundredths, points_text}
+use Rattle.view_texts.specs.WeightTexts.{change_text}
 use Rattle.svg_texts.specs.Fills.{change_fill}
 use Rattle.svg_texts.specs.declared.changes.Compared.{Compared}
 

@@ -5,7 +5,7 @@ ghost use Rattle.svg_texts.specs.Changes.{said_change};
 
 use function_sums::Change;
 use std::alloc::AllocError;
-use weight_texts::{Part, append_change, append_points};
+use view_texts::{Part, append_change, append_points};
 
 // The weights of a path before and after, and what both profiles weigh, where shares of that are compared.
 #[derive(Clone, Copy)]

@@ -6,7 +6,7 @@ ghost use Rattle.svg_texts.specs.Svg.{weight_in};
 
 use crate::frames::Frame;
 use std::alloc::AllocError;
-use weight_texts::append_weight;
+use view_texts::append_weight;
 
 // Appends a literal piece and a weight.
 pub(crate) fn append_weight_in(

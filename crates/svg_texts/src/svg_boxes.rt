@@ -19,7 +19,7 @@ use crate::shown_texts::append_shown;
 use flame_layout::{DrawnBox, PictureBox, edges};
 use function_sums::Change;
 use std::alloc::AllocError;
-use weight_texts::append_share;
+use view_texts::append_share;
 
 // Appends the line of a box, or nothing where its edges fall together.
 pub(crate) fn append_box(

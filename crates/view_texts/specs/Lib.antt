@@ -6,5 +6,8 @@ pub mod Lines
 pub mod Pairs
 pub mod Parts
 pub mod Pieces
+pub mod Quotients
+pub mod Shares
 pub mod Types
+pub mod WeightTexts
 pub mod checked

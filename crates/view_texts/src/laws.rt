@@ -1,5 +1,6 @@
 //! Laws over the definitions, for all lists. Each function does nothing, and takes no memory.
-ghost use Rattle.std.specs.Prelude.{◌≡◌, ◌<◌, ◌≤◌, ◌^◌, ◌++◌, ℕ, false, List, All, IsTrue, IsPermutation, map};
+
+ghost use Rattle.std.specs.Prelude.{◌≡◌, ◌<◌, ◌≤◌, ◌^◌, ◌++◌, ◌+◌, ◌*◌, ℕ, false, List, All, IsTrue, IsPermutation, map};
 ghost use Rattle.std.specs.List.{concat};
 ghost use Rattle.sample_tables.specs.Samples.{total_weight};
 ghost use Rattle.sample_tables.specs.declared.samples.TheConstants.{WEIGHT_LIMIT};
@@ -19,6 +20,8 @@ ghost use Rattle.view_texts.specs.Json.{boxes_data, boxes_line, snapshot_data, s
 ghost use Rattle.view_texts.specs.JsonLaws.{IsJsonLine, IsWithin};
 ghost use Rattle.view_texts.specs.Pairs.{pairs_of, AreAllPairs};
 ghost use Rattle.view_texts.specs.Parts.{IsFoldable, refolded, fold_of};
+ghost use Rattle.view_texts.specs.Quotients.{decimals, nearest};
+ghost use Rattle.view_texts.specs.Shares.{hundredths};
 
 /// The merged rows of some samples are in order of their stacks, each stack once. They have each
 /// stack with the sum of its samples, unless that is 0. No other rows do.
@@ -99,4 +102,28 @@ pub fn json_lines_read_back()
         → All (λ compared. IsWithin total compared.span × (compared.before < 2 ^ 64)) boxes
         → IsJsonLine (pair_boxes_line before total width boxes)
         (pair_boxes_data before total width boxes) }
+{}
+
+/// A percentage is off by at most half a hundredth, the whole is 100.00 of it, and nothing is 0.00.
+pub fn percentages_are_rounded()
+    ensures below { (whole weight : ℕ) → 0 < whole
+        → 2 * whole * hundredths whole weight ≤ 20000 * weight + whole }
+    ensures above { (whole weight : ℕ) → 0 < whole
+        → 20000 * weight < 2 * whole * hundredths whole weight + whole }
+    ensures all { (whole : ℕ) → 0 < whole → hundredths whole whole ≡ 10000 }
+    ensures none { (whole : ℕ) → 0 < whole → hundredths whole 0 ≡ 0 }
+{}
+
+/// A quotient is off by at most half of its last place, a half goes up, and as many decimals as make it
+/// a hundred of the last place are the fewest: it has three digits, or more only before the point. It
+/// holds of quotients that are not below 10^-18, as all that a weight of 64 bits has.
+pub fn quotients_have_three_digits()
+    ensures below { (part whole : ℕ) → 0 < whole
+        → 2 * whole * nearest part whole ≤ 2 * part + whole }
+    ensures above { (part whole : ℕ) → 0 < whole
+        → 2 * part < 2 * whole * nearest part whole + whole }
+    ensures enough { (part whole : ℕ) → whole ≤ 10 ^ 18 * part
+        → 100 * whole ≤ 10 ^ decimals 20 part whole * part }
+    ensures fewest { (part whole : ℕ) → 0 < decimals 20 part whole
+        → 10 ^ decimals 20 part whole * part < 1000 * whole }
 {}

@@ -4,9 +4,9 @@ use Rattle.std.specs.Io.KnownBytes.{Keeps}
 use Rattle.stack_core.specs.Ledgers.{ListState}
 use Rattle.command_line.specs.declared.plans.Plan.{Plan}
 use Rattle.byte_io.specs.Pieces.{AppendsFront}
-use Rattle.opened_sources.specs.Failures.{has_fault, status_of}
-use Rattle.opened_sources.specs.declared.failures.Failure.{Failure}
-use Rattle.opened_sources.specs.declared.failures.Failure.TheVariants.{TooManyFiles, Unreadable, TooLarge, OutOfMemory, NoThread, Unfinished, Faults, Output}
+use Rattle.source_views.specs.Failures.{has_fault, status_of}
+use Rattle.source_views.specs.declared.failures.Failure.{Failure}
+use Rattle.source_views.specs.declared.failures.Failure.TheVariants.{TooManyFiles, Unreadable, TooLarge, OutOfMemory, NoThread, Unfinished, Faults, Output}
 use Rattle.run_options.specs.declared.formats.Format.{Format}
 use Rattle.flame_tool.specs.Runs.{HasGrown, HasNotGrown, ShowsFront}
 use Rattle.flame_tool.specs.StrictRuns.{HasPlainFault}

@@ -12,9 +12,9 @@ use Rattle.folded_lines.specs.declared.strictness.StrictFault.{StrictFault}
 use Rattle.merged_stacks.specs.Timeline.{samples_of}
 use Rattle.command_line.specs.declared.plans.Plan.{Plan}
 use Rattle.ring_collect.specs.Collection.{Collects}
-use Rattle.opened_sources.specs.Failures.{ends_in_fault, has_fault, status_of}
-use Rattle.opened_sources.specs.declared.failures.Failure.{Failure}
-use Rattle.opened_sources.specs.declared.failures.Failure.TheVariants.{TooManyFiles, Unreadable, TooLarge, OutOfMemory, NoThread, Unfinished, Faults, Output}
+use Rattle.source_views.specs.Failures.{ends_in_fault, has_fault, status_of}
+use Rattle.source_views.specs.declared.failures.Failure.{Failure}
+use Rattle.source_views.specs.declared.failures.Failure.TheVariants.{TooManyFiles, Unreadable, TooLarge, OutOfMemory, NoThread, Unfinished, Faults, Output}
 use Rattle.live_lines.specs.declared.form.LiveForm.{LiveForm}
 use Rattle.live_lines.specs.declared.form.LiveForm.TheVariants.{Lines, Pages, Table}
 use Rattle.flame_tool.specs.LiveRuns.{AreFaultless, HasTextFault, ShowsAllOf, ShowsFirstOf, ShowsSomeOf, live_texts, read_texts}

@@ -6,9 +6,9 @@ use Rattle.stack_core.specs.declared.endings.SourceEnd.{SourceEnd}
 use Rattle.folded_lines.specs.StrictStreams.{IsTellable, strict_ending_fault}
 use Rattle.command_line.specs.declared.plans.Plan.{Plan}
 use Rattle.ring_collect.specs.Collection.{Collects}
-use Rattle.opened_sources.specs.Messages.{message_of_ending, message_of_failure, message_of_strict_fault, said_of_each}
-use Rattle.opened_sources.specs.declared.failures.Failure.{Failure}
-use Rattle.opened_sources.specs.declared.failures.Failure.TheVariants.{TooManyFiles, Unreadable, TooLarge, OutOfMemory, NoThread, Unfinished, Faults, Output}
+use Rattle.source_views.specs.Messages.{message_of_ending, message_of_failure, message_of_strict_fault, said_of_each}
+use Rattle.source_views.specs.declared.failures.Failure.{Failure}
+use Rattle.source_views.specs.declared.failures.Failure.TheVariants.{TooManyFiles, Unreadable, TooLarge, OutOfMemory, NoThread, Unfinished, Faults, Output}
 use Rattle.flame_tool.specs.ToldLive.{IsOfUnread, said_of_streams, said_of_texts}
 use Rattle.flame_tool.specs.checked.LiveEnds.{anywhere, is_stopped, status_of_ends}
 

@@ -3,9 +3,9 @@ use Rattle.std.specs.Prelude.{◌⊎◌, ℕ, Bool, true, false, List, [], Optio
 use Rattle.run_options.specs.declared.formats.Format.{Format}
 use Rattle.command_line.specs.declared.plans.Plan.{Plan}
 use Rattle.stack_core.specs.declared.endings.SourceEnd.{SourceEnd}
-use Rattle.opened_sources.specs.Messages.{Tells, message_of_ending, said_of_each}
-use Rattle.opened_sources.specs.declared.failures.Failure.{Failure}
-use Rattle.opened_sources.specs.declared.failures.Failure.TheVariants.{TooManyFiles, Unreadable, TooLarge, OutOfMemory, NoThread, Unfinished, Faults, Output}
+use Rattle.source_views.specs.Messages.{Tells, message_of_ending, said_of_each}
+use Rattle.source_views.specs.declared.failures.Failure.{Failure}
+use Rattle.source_views.specs.declared.failures.Failure.TheVariants.{TooManyFiles, Unreadable, TooLarge, OutOfMemory, NoThread, Unfinished, Faults, Output}
 use Rattle.flame_tool.specs.ToldRuns.{TellsGrown, TellsProfile, TellsSources}
 
 -- the message of each ending was told, in order, and nothing else

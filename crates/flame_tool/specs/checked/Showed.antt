@@ -3,8 +3,8 @@ use Rattle.std.specs.Prelude.{◌≡◌, ℕ, Bool, true, false, List, Option, R
 use Rattle.run_options.specs.declared.formats.Format.{Format}
 use Rattle.command_line.specs.Plans.{limit_of}
 use Rattle.command_line.specs.declared.plans.Plan.{Plan}
-use Rattle.opened_sources.specs.Failures.{Flushes}
-use Rattle.opened_sources.specs.declared.failures.Failure.{Failure}
+use Rattle.source_views.specs.Failures.{Flushes}
+use Rattle.source_views.specs.declared.failures.Failure.{Failure}
 use Rattle.flame_tool.specs.KnownRuns.{Change}
 use Rattle.flame_tool.specs.Runs.{Shows, ShowsSamples}
 use Rattle.flame_tool.specs.StrictRuns.{has_strict_fault}

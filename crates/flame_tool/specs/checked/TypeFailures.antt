@@ -1,8 +1,8 @@
 -- What a failed run says of the profile whose sample types it was asked for.
 use Rattle.std.specs.Prelude.{ℕ, List, Option}
 use Rattle.flame_tool.specs.TypeRuns.{HasTableFault, ShowsTypesFront}
-use Rattle.opened_sources.specs.declared.failures.Failure.{Failure}
-use Rattle.opened_sources.specs.declared.failures.Failure.TheVariants.{TooManyFiles, Unreadable, TooLarge, OutOfMemory, NoThread, Unfinished, Faults, Output}
+use Rattle.source_views.specs.declared.failures.Failure.{Failure}
+use Rattle.source_views.specs.declared.failures.Failure.TheVariants.{TooManyFiles, Unreadable, TooLarge, OutOfMemory, NoThread, Unfinished, Faults, Output}
 
 abbrev pub FailsTypes : Option (List ℕ) → Option (List ℕ) → Failure → List ℕ → Type 0
 FailsTypes old new TooManyFiles profile = Unit {0}

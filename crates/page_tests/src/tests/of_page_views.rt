@@ -7,13 +7,12 @@ mod data;
 use super::of_page_source::is_page;
 use super::texts::holds;
 use byte_io::CountedWriter;
-use opened_sources::Failure;
-use page_views::{
-    Heading, send_chart_page, send_comparison_page, send_graph_page, send_growing_page,
-};
 use run_options::{Filter, Format, Naming, Options, Pick, RingSize};
 use source_lists::{Gating, Input, Source, SourceLists, read};
-use source_views::{Alone, merge};
+use source_views::{
+    Alone, Failure, Heading, merge, send_chart_page, send_comparison_page, send_graph_page,
+    send_growing_page,
+};
 use stack_core::{NoSink, OpenGate, SourceList};
 use std::alloc::{AllocError, Global};
 use std::process::Abort;

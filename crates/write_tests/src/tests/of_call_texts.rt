@@ -3,10 +3,9 @@
 use super::of_sum_texts::{Rows, sums_of};
 use super::texts::is_text;
 use byte_io::append_pieces;
-use function_sums::CallSide;
+use function_sums::{CallSide, SumLine, Table, Telling};
 use std::alloc::{AllocError, Global};
 use std::test::Fail;
-use sum_texts::{SumLine, Table, Telling};
 
 fn telling(whole: Option<u64>) -> Telling<'static> {
     Telling {

@@ -2,12 +2,11 @@
 
 use super::texts::{are_bytes, is_text};
 use byte_io::append_pieces;
-use function_sums::{Change, FunctionChange};
+use function_sums::{Change, ChangeLine, FunctionChange, Table, Telling, grown_line};
 use stack_core::Text;
 use std::alloc::{AllocError, Global};
 use std::process::Abort;
 use std::test::Fail;
-use sum_texts::{ChangeLine, Table, Telling, grown_line};
 
 /// A weight before and after.
 type Sides = (u64, u64);

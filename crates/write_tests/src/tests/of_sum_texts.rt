@@ -2,12 +2,11 @@
 
 use super::texts::is_text;
 use byte_io::append_pieces;
-use function_sums::FunctionSum;
+use function_sums::{FunctionSum, Table, Telling, append_sum_line, append_sum_table};
 use stack_core::Text;
 use std::alloc::{AllocError, Global};
 use std::process::Abort;
 use std::test::Fail;
-use sum_texts::{Table, Telling, append_sum_line, append_sum_table};
 
 /// Names, own weights and totals of functions.
 pub(super) type Rows<'a> = &'a [(&'a str, u64, u64)];
@@ -290,7 +289,7 @@ Showing 2 of 2 functions, type cpu, unit nanoseconds, total 757234
 
 #[test]
 fn laws_take_nothing() {
-    sum_texts::laws::percentages_are_rounded();
-    sum_texts::laws::function_lines_read_back();
-    sum_texts::laws::change_lines_read_back();
+    function_sums::laws::percentages_are_rounded();
+    function_sums::laws::function_lines_read_back();
+    function_sums::laws::change_lines_read_back();
 }

@@ -4,7 +4,7 @@ use super::texts::is_text;
 use std::alloc::AllocError;
 use std::process::Abort;
 use std::test::Fail;
-use weight_texts::{append_change, append_share, append_weight, share_width};
+use view_texts::{append_change, append_share, append_weight, share_width};
 
 #[derive(Clone, Copy)]
 enum Said<'a> {
@@ -204,6 +204,6 @@ fn example_of_the_readme(rt: HostRuntime) -> Result<(), Fail> {
 
 #[test]
 fn laws_take_nothing() {
-    weight_texts::laws::percentages_are_rounded();
-    weight_texts::laws::quotients_have_three_digits();
+    view_texts::laws::percentages_are_rounded();
+    view_texts::laws::quotients_have_three_digits();
 }

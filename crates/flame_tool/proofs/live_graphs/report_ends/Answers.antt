@@ -3,8 +3,8 @@ use Rattle.std.specs.List.{zip}
 use Rattle.std.proofs.lemmas.Slice.Zip.{get_or-zip, length-zip}
 use Rattle.stack_core.specs.declared.endings.SourceEnd.{SourceEnd}
 use Rattle.stack_core.specs.declared.endings.SourceEnd.TheVariants.{Clean}
-use Rattle.opened_sources.specs.Messages.{Tells}
-use Rattle.opened_sources.proofs.MessageTexts.{tells_more, tells_nothing}
+use Rattle.source_views.specs.Messages.{Tells}
+use Rattle.source_views.proofs.MessageTexts.{tells_more, tells_nothing}
 use Rattle.flame_tool.specs.checked.LiveSaying.{IsTellableEnd, message_of_end, said_of_ends}
 use Rattle.flame_tool.proofs.ToldEndings.{said_of_first}
 use Rattle.flame_tool.proofs.live_graphs.report_ends.Goals as goal

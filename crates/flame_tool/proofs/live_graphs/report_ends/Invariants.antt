@@ -1,7 +1,7 @@
 -- What there is to say of the sources so far was told.
 use Rattle.std.proofs.Common.{◌≤◌, ◌-◌, All, length, take}
 use Rattle.std.specs.List.{zip}
-use Rattle.opened_sources.specs.Messages.{Tells}
+use Rattle.source_views.specs.Messages.{Tells}
 use Rattle.flame_tool.specs.checked.LiveSaying.{IsTellableEnd, said_of_ends}
 use Rattle.flame_tool.proofs.live_graphs.report_ends.Given as goal
 

@@ -3,9 +3,9 @@ use Rattle.std.specs.List.{list_any, zip}
 use Rattle.std.specs.Io.KnownBytes.{Appends}
 use Rattle.byte_io.specs.Pieces.{AppendsFront}
 use Rattle.command_line.specs.declared.plans.View.TheVariants.{Graph}
-use Rattle.opened_sources.specs.Failures.{failure_of_collect}
-use Rattle.opened_sources.specs.Messages.{Tells}
-use Rattle.opened_sources.specs.declared.failures.Failure.TheVariants.{Output, OutOfMemory}
+use Rattle.source_views.specs.Failures.{failure_of_collect}
+use Rattle.source_views.specs.Messages.{Tells}
+use Rattle.source_views.specs.declared.failures.Failure.TheVariants.{Output, OutOfMemory}
 use Rattle.ring_collect.specs.Collection.{CollectsRun}
 use Rattle.ring_collect.proofs.GivenRests.{any_given, given_count}
 use Rattle.live_lines.specs.Lines.{live_counts, live_lines, live_text}

@@ -1,6 +1,6 @@
 use Rattle.std.proofs.Common.{◌∙◌, ◌<◌, ◌≤◌, ◌≢◌, IfSome, arith, rules, length, string_bytes, subst, sym}
-use Rattle.opened_sources.specs.Messages.{Tells, message_of_failure}
-use Rattle.opened_sources.specs.declared.failures.Failure.TheVariants.{TooManyFiles}
+use Rattle.source_views.specs.Messages.{Tells, message_of_failure}
+use Rattle.source_views.specs.declared.failures.Failure.TheVariants.{TooManyFiles}
 use Rattle.flame_tool.specs.LiveRuns.{known_texts}
 use Rattle.flame_tool.specs.ToldLive.{IsOfFailure, IsUnopened, TellsLiveFailure, TellsSuch, said_of_texts}
 use Rattle.flame_tool.proofs.LiveSaid.{alone_told, as_many_paths, failed_high, failed_told, low_told, many_told, some_absent, unread_told, untold_opening}

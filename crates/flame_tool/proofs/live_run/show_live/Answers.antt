@@ -1,7 +1,7 @@
 use Rattle.std.proofs.Common.{List, ℕ, ap, refl, string_bytes, subst}
 use Rattle.std.proofs.lemmas.Result.{IfErr-weaker, IfOk-weaker}
-use Rattle.opened_sources.specs.Failures.{IsOpening}
-use Rattle.opened_sources.specs.Messages.{Tells}
+use Rattle.source_views.specs.Failures.{IsOpening}
+use Rattle.source_views.specs.Messages.{Tells}
 use Rattle.flame_tool.specs.ToldLive.{IsMissing}
 use Rattle.flame_tool.specs.checked.LiveSaying.{SaidOfEnds, SaidOfLost, SaysEnds, SaysLost}
 use Rattle.flame_tool.specs.checked.LiveStreams.{AreOpened}

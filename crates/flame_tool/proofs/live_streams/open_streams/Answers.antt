@@ -4,8 +4,8 @@ use Rattle.std.proofs.lemmas.List.{length_push}
 use Rattle.std.proofs.lemmas.List.Elements.{All-push}
 use Rattle.std.specs.Prelude.{IsNone}
 use Rattle.std.specs.List.{AllZip}
-use Rattle.opened_sources.specs.Failures.{IsOfLoad}
-use Rattle.opened_sources.specs.declared.failures.Failure.TheVariants.{Unreadable}
+use Rattle.source_views.specs.Failures.{IsOfLoad}
+use Rattle.source_views.specs.declared.failures.Failure.TheVariants.{Unreadable}
 use Rattle.stack_core.specs.RowReading.{GivesSome}
 use Rattle.flame_tool.specs.checked.LiveStreams.{IsOfFile}
 use Rattle.flame_tool.proofs.LiveSinks.{err_because}

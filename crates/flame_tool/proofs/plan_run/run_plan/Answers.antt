@@ -3,10 +3,10 @@ use Rattle.std.specs.Prelude.{IsSome, true}
 use Rattle.command_line.specs.Plans.{limit_of}
 use Rattle.command_line.specs.declared.plans.Form.TheVariants as form
 use Rattle.function_sums.specs.declared.call_sides.CallSide.TheVariants.{Callers, Callees}
-use Rattle.opened_sources.specs.Messages.{Tells, message_of_failure}
-use Rattle.opened_sources.specs.declared.failures.Failure.TheVariants.{TooManyFiles}
-use Rattle.sent_views.specs.Pages.{asked_heading, called_text, page_text, peeked_text, picture_text, told_in}
-use Rattle.sent_views.proofs.PageLemmas.{orderless_page}
+use Rattle.source_views.specs.Messages.{Tells, message_of_failure}
+use Rattle.source_views.specs.declared.failures.Failure.TheVariants.{TooManyFiles}
+use Rattle.flame_tool.specs.Pages.{asked_heading, called_text, page_text, peeked_text, picture_text, told_in}
+use Rattle.flame_tool.proofs.PageLemmas.{orderless_page}
 use Rattle.source_views.specs.Texts.{told_text, view_text}
 use Rattle.flame_tool.specs.KnownFacts.{known_sources}
 use Rattle.flame_tool.specs.KnownRuns.{PlanShows, as_files, change}

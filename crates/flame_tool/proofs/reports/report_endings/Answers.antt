@@ -1,6 +1,6 @@
 use Rattle.std.proofs.Common.{rules, get_or, ◌≡◌, ◌∙◌, ℕ, List, ◌++◌, ◌+◌, arith, map, take, take_all, ap, subst, sym, string_bytes}
-use Rattle.opened_sources.specs.Messages.{Tells, message_of_ending, said_of_each}
-use Rattle.opened_sources.proofs.MessageTexts.{tells_more, tells_nothing}
+use Rattle.source_views.specs.Messages.{Tells, message_of_ending, said_of_each}
+use Rattle.source_views.proofs.MessageTexts.{tells_more, tells_nothing}
 use Rattle.flame_tool.specs.checked.Saying.{TellsEndings}
 use Rattle.flame_tool.proofs.ToldEndings.{said_of_taken}
 use Rattle.flame_tool.proofs.reports.report_endings.Goals as goal

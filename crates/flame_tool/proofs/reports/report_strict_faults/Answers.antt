@@ -1,6 +1,6 @@
 use Rattle.std.proofs.Common.{get_or, ℕ, List, None, arith, map, take, take_all, subst, sym, string_bytes}
-use Rattle.opened_sources.specs.Messages.{Tells, message_of_strict_fault, said_of_each}
-use Rattle.opened_sources.proofs.MessageTexts.{tells_more, tells_nothing}
+use Rattle.source_views.specs.Messages.{Tells, message_of_strict_fault, said_of_each}
+use Rattle.source_views.proofs.MessageTexts.{tells_more, tells_nothing}
 use Rattle.flame_tool.proofs.ToldEndings.{said_of_first}
 use Rattle.flame_tool.proofs.reports.report_strict_faults.Goals as goal
 

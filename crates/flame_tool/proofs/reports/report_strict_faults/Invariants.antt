@@ -1,6 +1,6 @@
 -- What is wrong with the sources so far was told.
 use Rattle.std.proofs.Common.{◌≡◌, ◌≤◌, ◌-◌, false, length, map, take, string_bytes}
-use Rattle.opened_sources.specs.Messages.{Tells, message_of_strict_fault, said_of_each}
+use Rattle.source_views.specs.Messages.{Tells, message_of_strict_fault, said_of_each}
 use Rattle.flame_tool.proofs.reports.report_strict_faults.Given as goal
 
 abbrev pub invariant-loop-source : goal.invariant-loop-source

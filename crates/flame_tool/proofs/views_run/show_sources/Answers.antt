@@ -2,13 +2,13 @@ use Rattle.std.proofs.Common.{rules, ◌≡◌, ◌∙◌, ap, IfSome, OnOk, Lis
 use Rattle.std.specs.Prelude.{Bool, not}
 use Rattle.std.proofs.lemmas.Bool.{false≢true, true≢false}
 use Rattle.std.proofs.lemmas.Result.{IfErr-weaker}
-use Rattle.opened_sources.specs.Failures.{failure_of_run}
-use Rattle.opened_sources.specs.declared.failures.Failure.TheVariants.{OutOfMemory}
+use Rattle.source_views.specs.Failures.{failure_of_run}
+use Rattle.source_views.specs.declared.failures.Failure.TheVariants.{OutOfMemory}
 use Rattle.ring_collect.specs.Collection.{AreWhole}
 use Rattle.merged_stacks.specs.Timeline.{samples_of}
 use Rattle.run_options.specs.declared.formats.Format.{Format}
-use Rattle.sent_views.specs.Pages.{shown_text}
-use Rattle.sent_views.specs.declared.run_facts.RunFacts.{RunFacts}
+use Rattle.flame_tool.specs.Pages.{shown_text}
+use Rattle.flame_tool.specs.declared.run_facts.RunFacts.{RunFacts}
 use Rattle.source_lists.specs.OmittedNames.{shown_rests}
 use Rattle.source_lists.specs.Sources.{asked_rests, known_inputs, whole_weight}
 use Rattle.flame_tool.specs.KnownFacts.{facts_of}

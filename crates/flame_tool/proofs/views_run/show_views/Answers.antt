@@ -1,6 +1,6 @@
 use Rattle.std.proofs.Common.{List, ℕ, subst, ◌∙◌, ◌≡◌, false}
 use Rattle.std.proofs.lemmas.Result.{IfErr-weaker, IfOk-weaker, on_ok_weaker}
-use Rattle.opened_sources.specs.Opening.{AreLoaded}
+use Rattle.source_views.specs.Opening.{AreLoaded}
 use Rattle.flame_tool.specs.Runs.{Shows}
 use Rattle.flame_tool.specs.StrictRuns.{has_strict_fault}
 use Rattle.flame_tool.specs.checked.Failures.{Fails, FailsStrictly, TellsGrowth}

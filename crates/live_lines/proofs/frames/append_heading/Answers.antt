@@ -1,5 +1,5 @@
 use Rattle.std.proofs.Common.{◌≡◌, ◌∙◌, ◌++◌, [], ap, append_assoc, codes, decimal, rules}
-use Rattle.weight_texts.specs.WeightTexts.{weight_text}
+use Rattle.view_texts.specs.WeightTexts.{weight_text}
 use Rattle.live_lines.specs.Frames.{sources_word}
 use Rattle.live_lines.proofs.frames.append_heading.Goals as goal
 

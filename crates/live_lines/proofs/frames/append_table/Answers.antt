@@ -1,7 +1,7 @@
 use Rattle.std.proofs.Common.{◌∙◌, ◌++◌, ap, false}
 use Rattle.std.proofs.lemmas.Result.{on_ok_weaker}
 use Rattle.run_options.specs.declared.orders.FunctionOrder.TheVariants.{Own}
-use Rattle.sum_texts.specs.TopTexts.{top_table}
+use Rattle.function_sums.specs.TopTexts.{top_table}
 use Rattle.live_lines.proofs.frames.append_table.Goals as goal
 
 pub returns : goal.returns

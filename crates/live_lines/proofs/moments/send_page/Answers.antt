@@ -1,6 +1,6 @@
 use Rattle.std.proofs.Common.{◌∙◌, List, ℕ, ap, length, subst}
 use Rattle.page_texts.specs.Document.{document_text}
-use Rattle.page_views.specs.Pages.{growing_page}
+use Rattle.source_views.specs.Pages.{growing_page}
 use Rattle.merging.specs.Snapshots.{samples_of_pairs}
 use Rattle.live_lines.specs.checked.Sends.{WasSent}
 use Rattle.live_lines.proofs.FrameLemmas.{page_now}

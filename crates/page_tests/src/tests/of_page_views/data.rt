@@ -3,11 +3,10 @@ ghost use Rattle.std.specs.Prelude.{◌≡◌, ◌≤◌, IfSome, IsTrue, length
 
 use super::{folded, options_of};
 use crate::tests::texts::are_bytes;
-use page_views::{Heading, PageView, render_page_data};
 use run_options::Options;
 use serde_json::Value;
 use source_lists::Source;
-use source_views::{Views, views};
+use source_views::{Heading, PageView, Views, render_page_data, views};
 use stack_core::OpenGate;
 use std::alloc::{AllocError, Global};
 use std::process::Abort;

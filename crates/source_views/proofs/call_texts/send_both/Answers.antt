@@ -1,6 +1,6 @@
 use Rattle.std.proofs.Common.{ℕ, List, subst}
 use Rattle.std.proofs.lemmas.List.Folds.{concat-append}
-use Rattle.opened_sources.specs.Failures.{Sends}
+use Rattle.source_views.specs.Failures.{Sends}
 use Rattle.source_views.proofs.call_texts.send_both.Goals as goal
 
 pub returns-clause-sent : goal.returns-clause-sent

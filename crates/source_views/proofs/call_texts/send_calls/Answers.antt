@@ -1,9 +1,9 @@
 use Rattle.std.proofs.Common.{◌∙◌, ℕ, List, ap, cond, subst, sym}
 use Rattle.merged_stacks.specs.Timeline.{samples_of}
 use Rattle.merging.specs.Sums.{all_samples}
-use Rattle.opened_sources.specs.Failures.{Sends}
-use Rattle.sum_texts.specs.CallTexts.{calls_line, calls_table}
-use Rattle.sum_texts.specs.Told.{told_of}
+use Rattle.source_views.specs.Failures.{Sends}
+use Rattle.function_sums.specs.CallTexts.{calls_line, calls_table}
+use Rattle.function_sums.specs.Told.{told_of}
 use Rattle.source_views.proofs.call_texts.send_calls.Goals as goal
 
 pub returns-then-table-clause-sent : goal.returns-then-table-clause-sent

@@ -1,8 +1,8 @@
 use Rattle.std.proofs.Common.{◌∙◌, ℕ, List, ap, subst, arith}
 use Rattle.stack_core.specs.Ledgers.{ListState}
 use Rattle.source_views.specs.Texts.{diff_text}
-use Rattle.sum_texts.specs.Told.{told_of}
-use Rattle.opened_sources.specs.Failures.{Sends}
+use Rattle.function_sums.specs.Told.{told_of}
+use Rattle.source_views.specs.Failures.{Sends}
 use Rattle.source_views.proofs.TextLemmas.{listed_samples}
 use Rattle.source_views.proofs.change_texts.send_diff.Goals as goal
 

@@ -5,7 +5,7 @@ use Rattle.function_sums.specs.Growth.{grown}
 use Rattle.function_sums.specs.declared.changes.ChangeOrder.{ChangeOrder}
 use Rattle.function_sums.specs.declared.changes.FunctionChange.{FunctionChange}
 use Rattle.function_sums.proofs.FunctionList.{changes_alone}
-use Rattle.sum_texts.specs.GrownLine.{grown_line}
+use Rattle.function_sums.specs.GrownLine.{grown_line}
 use Rattle.source_views.specs.Texts.{order_of}
 use Rattle.source_views.proofs.growth.grown_over.Goals as goal
 

@@ -1,5 +1,5 @@
 use Rattle.std.proofs.Common.{subst, ℕ, List}
-use Rattle.opened_sources.specs.Failures.{Sends}
+use Rattle.source_views.specs.Failures.{Sends}
 use Rattle.source_views.proofs.view_text.send_chart.Goals as goal
 
 pub returns-clause-sent : goal.returns-clause-sent

@@ -4,7 +4,7 @@ use Rattle.flame_layout.specs.Comparison.{compared_boxes_of}
 use Rattle.flame_layout.specs.declared.boxes.DrawnPair.{DrawnPair}
 use Rattle.flame_layout.proofs.DrawnBoxes.{paired_list, paired_positive, paired_within}
 use Rattle.merged_stacks.specs.Timeline.{total_weight}
-use Rattle.opened_sources.specs.Failures.{Sends}
+use Rattle.source_views.specs.Failures.{Sends}
 use Rattle.view_texts.specs.Json.{pair_boxes_line}
 use Rattle.source_views.proofs.view_text.send_compared.Goals as goal
 

@@ -4,7 +4,7 @@ use Rattle.merged_stacks.specs.RankedStacks.{Ranking, ranked_samples}
 use Rattle.merged_stacks.specs.Merged.{all_samples}
 use Rattle.merged_stacks.specs.Timeline.{samples_of}
 use Rattle.view_texts.specs.Pieces.{stack_lines}
-use Rattle.opened_sources.specs.Failures.{Sends}
+use Rattle.source_views.specs.Failures.{Sends}
 use Rattle.source_views.proofs.view_text.send_fold.Goals as goal
 
 pub returns-clause-sent : goal.returns-clause-sent

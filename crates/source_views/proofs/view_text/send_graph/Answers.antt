@@ -1,7 +1,7 @@
 use Rattle.std.proofs.Common.{subst, ℕ, List}
 use Rattle.merged_stacks.specs.Timeline.{samples_of}
 use Rattle.merging.specs.Sums.{all_samples}
-use Rattle.opened_sources.specs.Failures.{Sends}
+use Rattle.source_views.specs.Failures.{Sends}
 use Rattle.source_views.proofs.view_text.send_graph.Goals as goal
 
 pub drawn_graph-line-requires : goal.drawn_graph-line-requires

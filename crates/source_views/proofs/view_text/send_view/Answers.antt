@@ -5,8 +5,8 @@ use Rattle.command_line.specs.declared.plans.View.{View}
 use Rattle.command_line.specs.declared.plans.View.TheVariants.{Diff, PairBoxes}
 use Rattle.merged_stacks.specs.Timeline.{samples_of}
 use Rattle.source_views.specs.Texts.{pair_boxes_text, told_text}
-use Rattle.sum_texts.specs.Told.{told_of}
-use Rattle.opened_sources.specs.Failures.{Sends}
+use Rattle.function_sums.specs.Told.{told_of}
+use Rattle.source_views.specs.Failures.{Sends}
 use Rattle.source_views.proofs.TextLemmas.{listed_samples}
 use Rattle.source_views.proofs.view_text.send_view.Goals as goal
 

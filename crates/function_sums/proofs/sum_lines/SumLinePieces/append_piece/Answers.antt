@@ -1,0 +1,22 @@
+use Rattle.std.proofs.Common.{◌≡◌, ◌+◌, ◌-◌, ◌++◌, ◌∙◌, codes, length, ap, map, sym, arith}
+use Rattle.std.proofs.lemmas.List.{length-map}
+use Rattle.std.proofs.lemmas.Result.{on_ok_weaker}
+use Rattle.view_texts.proofs.TextPieces.{box_piece, tail_piece}
+use Rattle.function_sums.specs.FunctionJson.{function_data}
+use Rattle.function_sums.specs.Pieces.{functions_tail}
+use Rattle.function_sums.specs.Told.{told_of}
+use Rattle.function_sums.proofs.TextPieces.{length-functions_pieces}
+use Rattle.function_sums.proofs.sum_lines.SumLinePieces.append_piece.Goals as goal
+
+pub returns-then-at-self-clause-ok : goal.returns-then-at-self-clause-ok
+returns-then-at-self-clause-ok c =
+    let line = c.args.self.now in
+    let piece = box_piece function_data line.sums.now (codes "{\"functions\":[") (functions_tail line.side (told_of line.telling) line.whole) c.args.at (c.args.at - 1) c.index-self-place.result (omega (arith, c.if-at-eq0.false)) (omega (arith, c.if-at-eq0.false, c.if-at-self.true)) in
+    on_ok_weaker c.append_function.result (λ e. e ∙ ap (λ text. c.args.out.now.items ++ text) (sym piece)) c.append_function.ensures.ok
+
+pub returns-else-at-self-clause-ok : goal.returns-else-at-self-clause-ok
+returns-else-at-self-clause-ok c =
+    let line = c.args.self.now in
+    let values = map function_data line.sums.now in
+    let last : c.args.at ≡ length values + 1 = omega (arith, c.if-at-self.false, c.requires.there, length-functions_pieces line.side (told_of line.telling) line.whole line.sums.now, length-map line.sums.now function_data) in
+    on_ok_weaker c.append_tail.result (λ e. e ∙ ap (λ text. c.args.out.now.items ++ text) (sym (tail_piece values (codes "{\"functions\":[") (functions_tail line.side (told_of line.telling) line.whole) c.args.at last))) c.append_tail.ensures.ok

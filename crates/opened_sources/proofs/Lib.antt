@@ -1,2 +1,0 @@
-pub mod MessageTexts
-mod OpenedSources

@@ -1,6 +1,0 @@
-use Rattle.std.proofs.Common.{◌≡◌}
-use Rattle.page_views.specs.checked.Filling.{filled}
-use Rattle.page_views.proofs.drawn_runs.filled_counts.Given as goal
-
-abbrev pub invariant-loop-source : goal.invariant-loop-source
-invariant-loop-source l = l.filling.items ≡ filled l.source l.counts

@@ -1,3 +1,0 @@
--- The definitions that the contracts of page_views cite.
-pub mod Pages
-pub mod checked

@@ -1,4 +1,0 @@
-pub mod PageLemmas
-mod PictureLemmas
-mod WorkedPages
-mod WorkedPictures

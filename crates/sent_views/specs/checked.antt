@@ -1,3 +1,0 @@
--- Definitions that no public contract cites: not to be believed, but checked with the code that cites them.
-pub mod Frames
-pub mod Saying

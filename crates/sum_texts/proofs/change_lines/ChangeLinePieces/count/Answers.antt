@@ -1,6 +1,0 @@
-use Rattle.std.proofs.Common.{sym}
-use Rattle.sum_texts.proofs.ChangePieces.{length-changes_pieces}
-use Rattle.sum_texts.proofs.change_lines.ChangeLinePieces.count.Goals as goal
-
-pub returns : goal.returns
-returns c = sym (length-changes_pieces c.args.self.now.unit.now c.args.self.now.whole.before c.args.self.now.whole.after c.args.self.now.changes.now)

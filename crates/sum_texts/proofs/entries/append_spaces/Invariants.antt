@@ -1,6 +1,0 @@
--- the spaces so far
-use Rattle.std.proofs.Common.{◌≡◌, ◌++◌, replicate}
-use Rattle.sum_texts.proofs.entries.append_spaces.Given as goal
-
-abbrev pub invariant-loop : goal.invariant-loop
-invariant-loop l = l.out.items ≡ l.fn.out.items ++ replicate l.counter 32

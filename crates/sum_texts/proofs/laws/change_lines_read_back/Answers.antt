@@ -1,5 +1,0 @@
-use Rattle.sum_texts.proofs.JsonLaws.{changes_read_back}
-use Rattle.sum_texts.proofs.laws.change_lines_read_back.Goals as goal
-
-pub returns : goal.returns
-returns c = changes_read_back

@@ -1,4 +1,0 @@
--- The definitions that the contracts of weight_texts cite.
-pub mod Quotients
-pub mod Shares
-pub mod WeightTexts
