@@ -1,5 +1,5 @@
 -- A run, from its start to what was settled.
-use Rattle.std.proofs.Common.{All, ◌≡◌, ◌≢◌, ℕ, zero, suc, ◌<◌, ◌≤◌, ◌⊎◌, inl, inr, Bool, false, List, [], ◌∷◌, ◌++◌, length, map, get_or, refl, sym, ap, subst, ◌∙◌, arith, append-nil, Some, None, slice_get, Result, Ok, Err, IsOk, OnOk, true≢false}
+use Rattle.std.proofs.Common.{All, ◌≡◌, ◌≢◌, ℕ, zero, suc, ◌<◌, ◌≤◌, ◌⊎◌, inl, inr, Bool, false, List, [], ◌∷◌, ◌++◌, length, map, get_or, refl, sym, ap, subst, ◌∙◌, arith, append-nil, Option, Some, None, slice_get, Result, Ok, Err, IsOk, OnOk, true≢false}
 use Rattle.std.specs.List.{AllByRecursion}
 use Rattle.std.proofs.lemmas.List.{length-map}
 use Rattle.std.proofs.lemmas.List.Elements.{All-from_recursion}
@@ -7,24 +7,29 @@ use Rattle.std.proofs.lemmas.Option.{slice_get_cases, slice_get_within, same_Som
 use Rattle.stack_core.specs.Reading.{Rest}
 use Rattle.stack_core.specs.RowReading.{GivesSome, GivesSuch}
 use Rattle.stack_core.specs.Ledgers.{LedgerState}
-use Rattle.stack_core.specs.Told.{GoesBelow}
+use Rattle.stack_core.specs.Told.{GoesBelow, told as told_items}
+use Rattle.stack_core.proofs.ToldLemmas.{told_under-IsCollected}
 use Rattle.stack_core.specs.Interleaving.{list_of, of_source}
 use Rattle.stack_core.specs.Prefixes.{IsPrefixOf}
-use Rattle.stack_core.proofs.InterleavingLemmas.{of_source_at, of_source_past}
+use Rattle.stack_core.proofs.InterleavingLemmas.{of_source-append, of_source_at, of_source_past}
 use Rattle.sample_tables.specs.declared.samples.Sample.{Sample}
 use Rattle.ring_collect.specs.checked.Batches.{records_of_all}
 use Rattle.ring_collect.specs.checked.Intakes.{Tracked, Tracks}
 use Rattle.ring_collect.specs.checked.Rounds.{HasGained}
+use Rattle.stack_core.specs.declared.endings.Close.{Close}
+use Rattle.stack_core.specs.declared.endings.Close.TheVariants.{Read, NoMemory}
+use Rattle.stack_core.specs.declared.endings.SourceEnd.{SourceEnd}
 use Rattle.ring_collect.specs.checked.RunningSources.{ArePromised, IsFresh, AreFresh}
 use Rattle.ring_collect.specs.checked.Settlement.{IsSettledAs, IsAllTold, AreSettled}
-use Rattle.ring_collect.specs.Collection.{GainsAllowed, GainsFirst, GainsOf, Unfinishes}
+use Rattle.ring_collect.specs.Collection.{EndOfSource, GainsAllowed, GainsFirst, GainsOf, HearsAll, HearsEnd, HearsFirst, HearsSome, Unfinishes}
+use Rattle.ring_collect.specs.checked.Ends.{HasHeard, HearsCloses, Held, ends_by}
 use Rattle.ring_collect.specs.checked.WholeRuns.{RunsWhole, IsUnfinished}
 use Rattle.std.specs.Result.{IsErrAnd, IsErrOf}
 use Rattle.ring_collect.specs.declared.faults.CollectFault.{CollectFault}
-use Rattle.ring_collect.specs.declared.faults.CollectFault.TheVariants.{OutOfMemory, NoThread}
+use Rattle.ring_collect.specs.declared.faults.CollectFault.TheVariants.{OutOfMemory, NoThread, Unfinished}
 use Rattle.ring_collect.proofs.GivenRests.{Chosen, choose, given_count, one_of_all}
 use Rattle.ring_collect.proofs.Outcomes.{error_said}
-use Rattle.ring_collect.proofs.RoundLemmas.{slice_get_map}
+use Rattle.ring_collect.proofs.RoundLemmas.{open_ends, slice_get_map}
 use Rattle.ring_collect.specs.declared.intakes.Intake.{Intake}
 use Rattle.ring_collect.specs.declared.intakes.Stage.{Stage}
 use Rattle.ring_collect.specs.declared.intakes.Stage.TheVariants.{Taking, Dropping, Unnamed}
@@ -63,26 +68,35 @@ fresh_tracked intake fresh =
     (subst (λ ledger. Tracked intake.origin.keeps [] None ledger intake.stage []) (sym fresh.ledger)
     (subst (λ stage. Tracked intake.origin.keeps [] None (record { samples = []; close = None; told = []; rows = []; stacks = []; entries = [] }) stage []) (sym fresh.stage) nothing_tracked)))
 
+pub at_index : {A : Type 0} (xs : List A) (i : ℕ) → i < length xs → (x : A) × (slice_get xs i ≡ Some x)
+at_index xs i below = elim (slice_get_cases xs i).1 [ inl here ↦ (here.0, here.2) | inr past ↦ let h = past.0 in absurd (omega arith) ]
+
 -- before the first record nothing is gained
-fresh_gained : (keeps : Bool) (start : List (ℕ × Sample)) (intakes : List Intake) (refused : Bool) → AreFresh keeps intakes → HasGained keeps start intakes start [] refused
+fresh_gained : (keeps : Bool) (start : Held) (intakes : List Intake) (refused : Bool) → AreFresh keeps intakes → HasGained keeps start intakes start [] refused
 fresh_gained keeps start intakes refused fresh = record {
   lists = map (λ _. []) intakes;
   pairs = [];
   all_listed = length-map intakes (λ _. []);
-  gained = sym (append-nil start);
+  gained = sym (append-nil start.taken);
   of_lists = record { by_source = λ source. sym (no_lists intakes source) };
   ordered = λ _ _. refl;
   each = λ source intake is.
       let one = fresh.each source intake is in
       record { number = one.number; kept = one.kept; tracks = subst (Tracks intake) (sym (no_lists intakes source)) (fresh_tracked intake one) };
   going = λ e source intake is dropping. taking≢dropping (sym (fresh.each source intake is).stage ∙ dropping);
+  heard = λ few. record {
+    pairs = [];
+    gained = sym (append-nil start.heard);
+    each = λ source intake is. sym (ap (λ close. ends_by intake.stage close (length (of_source source start.taken))) (fresh.each source intake is).close ∙ open_ends intake.stage (length (of_source source start.taken)));
+    no_other = λ source past. refl;
+  };
 }
 
 -- so with an order that has nothing yet
-pub nothing_gained : (keeps : Bool) (start : List (ℕ × Sample)) (intakes : List Intake) (order : List ℕ) (refused : Bool) → order ≡ [] → AreFresh keeps intakes → HasGained keeps start intakes start order refused
+pub nothing_gained : (keeps : Bool) (start : Held) (intakes : List Intake) (order : List ℕ) (refused : Bool) → order ≡ [] → AreFresh keeps intakes → HasGained keeps start intakes start order refused
 nothing_gained keeps start intakes order refused none fresh = subst (λ order. HasGained keeps start intakes start order refused) (sym none) (fresh_gained keeps start intakes refused fresh)
 
-map_twice : {A B C : Type 0} (f : A → B) (g : B → C) (xs : List A) → map g (map f xs) ≡ map (λ x. g (f x)) xs
+pub map_twice : {A B C : Type 0} (f : A → B) (g : B → C) (xs : List A) → map g (map f xs) ≡ map (λ x. g (f x)) xs
 map_twice f g [] = refl
 map_twice f g (x ∷ xs) = ap (λ ys. g (f x) ∷ ys) (map_twice f g xs)
 
@@ -96,9 +110,6 @@ still_promised {gate = gate} {readers} old new same = subst (ArePromised gate re
 
 pub as_many : {R G : Type 0} (old new : List (RunningSource R G)) → map (λ running. running.handle) new ≡ map (λ running. running.handle) old → length new ≡ length old
 as_many old new same = sym (length-map new (λ s. s.handle)) ∙ ap length same ∙ length-map old (λ s. s.handle)
-
-pub at_index : {A : Type 0} (xs : List A) (i : ℕ) → i < length xs → (x : A) × (slice_get xs i ≡ Some x)
-at_index xs i below = elim (slice_get_cases xs i).1 [ inl here ↦ (here.0, here.2) | inr past ↦ let h = past.0 in absurd (omega arith) ]
 
 pub past_the_end : {A : Type 0} (xs : List (List A)) (i : ℕ) → length xs ≤ i → get_or xs i [] ≡ []
 past_the_end [] i past = refl
@@ -122,7 +133,7 @@ sources_below n ((s, x) ∷ pairs) none = (is_below, sources_below n pairs (λ s
     apart : (source : ℕ) → n ≤ source → s ≢ source
     apart source past e = let b = is_below in omega arith
 
-gains_of : {keeps : Bool} {start taken : List (ℕ × Sample)} {intakes : List Intake} {order : List ℕ} {refused : Bool} (n : ℕ) → length intakes ≤ n → HasGained keeps start intakes taken order refused → GainsOf n start taken
+gains_of : {keeps : Bool} {start now : Held} {intakes : List Intake} {order : List ℕ} {refused : Bool} (n : ℕ) → length intakes ≤ n → HasGained keeps start intakes now order refused → GainsOf n start.taken now.taken
 gains_of n few has_gained = record {
   pairs = has_gained.pairs;
   gained = has_gained.gained;
@@ -130,9 +141,9 @@ gains_of n few has_gained = record {
       has_gained.of_lists.by_source source ∙ past_the_end has_gained.lists source (let e = has_gained.all_listed in omega arith)));
 }
 
-pub unfinishes : {keeps : Bool} {R G : Type 0} {gate : G} {readers : List R} (all : List (RunningSource R G)) {start taken : List (ℕ × Sample)} {order : List ℕ} {refused : Bool} (source : ℕ)
-    → ArePromised gate readers (map (λ running. running.handle.promise) all) → HasGained keeps start (map (λ running. running.intake) all) taken order refused
-    → source < length all → Unfinishes (length readers) source start taken
+pub unfinishes : {keeps : Bool} {R G : Type 0} {gate : G} {readers : List R} (all : List (RunningSource R G)) {start now : Held} {order : List ℕ} {refused : Bool} (source : ℕ)
+    → ArePromised gate readers (map (λ running. running.handle.promise) all) → HasGained keeps start (map (λ running. running.intake) all) now order refused
+    → source < length all → Unfinishes (length readers) source start.taken now.taken
 unfinishes {readers = readers} all source promised gained below = record {
   below = let n = no_more in omega arith;
   gains = gains_of (length readers) (let n = no_more in let e = length-map all (λ s. s.intake) in omega arith) gained;
@@ -141,10 +152,48 @@ unfinishes {readers = readers} all source promised gained below = record {
     no_more : length all ≤ length readers
     no_more = let n = promised.no_more in let e = length-map all (λ s. s.handle.promise) in omega arith
 
+few_ends : (stage : Stage) (close : Option Close) (count : ℕ) → length (ends_by stage close count) ≤ 1
+few_ends Taking None count = omega arith
+few_ends Taking (Some (Read ending)) count = omega arith
+few_ends Taking (Some NoMemory) count = omega arith
+few_ends Dropping close count = omega arith
+few_ends Unnamed close count = omega arith
+
+-- of each source an end was heard at most once
+pub hears_some : {start heard : List (ℕ × EndOfSource)} {intakes : List Intake} {taken : List (ℕ × Sample)} (count : ℕ) → length intakes ≤ count → HasHeard start intakes taken heard → HearsSome count start heard
+hears_some {intakes = intakes} {taken} count few has_heard = record {
+  pairs = has_heard.pairs;
+  gained = has_heard.gained;
+  once = once;
+  no_other = λ source past. has_heard.no_other source (omega arith);
+}
+  where
+    once : (source : ℕ) → length (of_source source has_heard.pairs) ≤ 1
+    once source = elim (slice_get_cases intakes source).1 [
+      | inl here ↦ subst (λ ends. length ends ≤ 1) (sym (has_heard.each source here.0 here.2)) (few_ends here.0.stage here.0.close (length (of_source source taken)))
+      | inr past ↦ subst (λ (ends : List EndOfSource). length ends ≤ 1) (sym (has_heard.no_other source past.0)) (omega arith)
+    ]
+
+-- and of each that was closed by an ending that one
+pub hears_all : {start heard : List (ℕ × EndOfSource)} {taken : List (ℕ × Sample)} (closes : List (Option Close)) (endings : List SourceEnd) → map (λ ending. Some (Read ending)) endings ≡ closes
+    → HearsCloses start closes taken heard → HearsAll taken endings start heard
+hears_all {taken = taken} closes endings same hears = record {
+  pairs = hears.pairs;
+  gained = hears.gained;
+  each = λ source ending is. hears.each source (Some (Read ending)) (ap (λ closes. slice_get closes source) (sym same) ∙ slice_get_map (λ ending. Some (Read ending)) endings source ending is);
+  no_other = λ source past. hears.no_other source (let e = ap length same in let f = length-map endings (λ ending. Some (Read ending)) in omega arith);
+}
+
+pub hears_no_first : (may_stop may_go : ℕ → ℕ → Type 0) (rests : List Rest) (taken : List (ℕ × Sample)) (heard : List (ℕ × EndOfSource)) → HearsFirst may_stop may_go rests taken taken heard heard
+hears_no_first may_stop may_go rests taken heard = record { pairs = []; gained = sym (append-nil heard); each = λ source rest is. inl refl; no_other = λ source past. refl }
+
+pub hears_nothing : (count : ℕ) (heard : List (ℕ × EndOfSource)) → HearsSome count heard heard
+hears_nothing count heard = record { pairs = []; gained = sym (append-nil heard); once = λ source. omega arith; no_other = λ source past. refl }
+
 module _ {R G : Type 0} {may_stop may_go : G → ℕ → ℕ → Type 0} {gives : R → Rest → Type 0} {gate : G} {readers : List R} {all : List (RunningSource R G)} {ledgers : List LedgerState}
-    {start taken : List (ℕ × Sample)} {order : List ℕ} {refused keeps : Bool}
+    {start now : Held} {order : List ℕ} {refused keeps : Bool}
     (promised : ArePromised gate readers (map (λ started. started.handle.promise) all)) (settled : AreSettled may_stop may_go gives all ledgers)
-    (has_gained : HasGained keeps start (map (λ started. started.intake) all) taken order refused) where
+    (has_gained : HasGained keeps start (map (λ started. started.intake) all) now order refused) where
   abbrev IsRestOf : ℕ → RunningSource R G → LedgerState → Rest → Type 0
   IsRestOf source started ledger rest = IsSettledAs keeps (may_stop gate) (may_go gate) source rest started.intake.stage (list_of has_gained.lists source) ledger
 
@@ -200,7 +249,7 @@ module _ {R G : Type 0} {may_stop may_go : G → ℕ → ℕ → Type 0} {gives 
   all_listed : length has_gained.lists ≡ length all
   all_listed = has_gained.all_listed ∙ length-map all (λ s. s.intake)
 
-  pub gains_first : (chosen : Chosen gives readers IsRestAt) → GainsFirst chosen.rests start taken
+  pub gains_first : (chosen : Chosen gives readers IsRestAt) → GainsFirst chosen.rests start.taken now.taken
   gains_first chosen = record {
     pairs = has_gained.pairs;
     lists = has_gained.lists;
@@ -225,7 +274,7 @@ module _ {R G : Type 0} {may_stop may_go : G → ℕ → ℕ → Type 0} {gives 
                 (r.samples, ap (λ front. front ++ r.samples) none)
           ]
 
-  pub gains_allowed : GainsAllowed (may_go gate) start taken
+  pub gains_allowed : GainsAllowed (may_go gate) start.taken now.taken
   gains_allowed = record {
     pairs = has_gained.pairs;
     gained = has_gained.gained;
@@ -249,7 +298,7 @@ module _ {R G : Type 0} {may_stop may_go : G → ℕ → ℕ → Type 0} {gives 
             λ i below. absurd (omega arith)
       ]
 
-  pub runs_whole : (chosen : Chosen gives readers IsRestAt) → refused ≡ false → length all ≡ length readers → RunsWhole keeps (may_stop gate) (may_go gate) chosen.rests ledgers order start taken
+  pub runs_whole : (chosen : Chosen gives readers IsRestAt) → refused ≡ false → length all ≡ length readers → RunsWhole keeps (may_stop gate) (may_go gate) chosen.rests ledgers order start.taken now.taken
   runs_whole chosen not_refused every = record {
     pairs = has_gained.pairs;
     lists = has_gained.lists;
@@ -270,6 +319,76 @@ module _ {R G : Type 0} {may_stop may_go : G → ℕ → ℕ → Type 0} {gives 
           let one = chosen.each source r is started.0 ledger started.1 is_ledger in
           let going = has_gained.going not_refused source started.0.intake (slice_get_map (λ s. s.intake) all source started.0 started.1) in
           one.whole (is_taking started.0.intake.stage going one.taken_or_dropped)
+
+  -- where nothing is dropped the sink heard of each how it was closed
+  pub hears_closes : refused ≡ false → length all ≤ now.known → map (λ ledger. ledger.close) ledgers ≡ map (λ started. started.intake.close) all
+      → HearsCloses start.heard (map (λ ledger. ledger.close) ledgers) now.taken now.heard
+  hears_closes not_refused few same = record {
+    pairs = heard.pairs;
+    gained = heard.gained;
+    each = each;
+    no_other = λ source past. heard.no_other source (let e = length-map all (λ s. s.intake) in let f = length-map ledgers (λ ledger. ledger.close) in let count = settled.count in omega arith);
+  }
+    where
+      heard : HasHeard start.heard (map (λ started. started.intake) all) now.taken now.heard
+      heard = has_gained.heard (let e = length-map all (λ s. s.intake) in omega arith)
+
+      each : (source : ℕ) (close : Option Close) → slice_get (map (λ ledger. ledger.close) ledgers) source ≡ Some close → of_source source heard.pairs ≡ ends_by Taking close (length (of_source source now.taken))
+      each source close is =
+          let count = settled.count in
+          let no_more = promised.no_more in
+          let as_many = length-map all (λ s. s.handle.promise) in
+          let e = length-map ledgers (λ ledger. ledger.close) in
+          let below = slice_get_within (map (λ ledger. ledger.close) ledgers) source close is in
+          let started = at_index all source (omega arith) in
+          let ledger = at_index ledgers source (omega arith) in
+          let reader = at_index readers source (omega arith) in
+          let is_intake = slice_get_map (λ s. s.intake) all source started.0 started.1 in
+          let stage = is_taking started.0.intake.stage (has_gained.going not_refused source started.0.intake is_intake) (source_settled source started.0 ledger.0 reader.0 started.1 ledger.1 reader.1).holds.taken_or_dropped in
+          let closed = same_Some started.0.intake.close close (sym (slice_get_map (λ s. s.intake.close) all source started.0 started.1) ∙ ap (λ closes. slice_get closes source) (sym same) ∙ is) in
+          heard.each source started.0.intake is_intake ∙ (λ i. ends_by (stage i) (closed i) (length (of_source source now.taken)))
+
+  -- whatever was dropped, it heard of no source but how it ended
+  pub hears_first : (chosen : Chosen gives readers IsRestAt) → length all ≤ now.known → map (λ ledger. ledger.close) ledgers ≡ map (λ started. started.intake.close) all
+      → HearsFirst (may_stop gate) (may_go gate) chosen.rests start.taken now.taken start.heard now.heard
+  hears_first chosen few same = record {
+    pairs = heard.pairs;
+    gained = heard.gained;
+    each = each;
+    no_other = λ source past. heard.no_other source (let n = promised.no_more in let e = length-map all (λ s. s.intake) in let f = length-map all (λ s. s.handle.promise) in let h = given_count gives readers chosen.rests chosen.are_given in omega arith);
+  }
+    where
+      heard : HasHeard start.heard (map (λ started. started.intake) all) now.taken now.heard
+      heard = has_gained.heard (let e = length-map all (λ s. s.intake) in omega arith)
+
+      gained : (source : ℕ) → of_source source now.taken ≡ of_source source start.taken ++ list_of has_gained.lists source
+      gained source = ap (of_source source) has_gained.gained ∙ of_source-append source start.taken has_gained.pairs ∙ ap (λ more. of_source source start.taken ++ more) (has_gained.of_lists.by_source source)
+
+      one : (source : ℕ) (r : Rest) (stage : Stage) (close : Option Close) (ledger : LedgerState) → ledger.close ≡ close
+          → (stage ≡ Taking → IsAllTold keeps (may_stop gate) (may_go gate) source r (list_of has_gained.lists source) ledger)
+          → of_source source heard.pairs ≡ ends_by stage close (length (of_source source now.taken)) → HearsEnd (may_stop gate) (may_go gate) source r start.taken now.taken (of_source source heard.pairs)
+      one source r Taking (Some (Read ending)) ledger closed whole is =
+          let told = whole refl in
+          let list : Rest = record { samples = list_of has_gained.lists source; ending = ending } in
+          let last = same_Some told.last (Read ending) (sym told.closed ∙ closed) in
+          inr (list, told_under-IsCollected (may_stop gate) (may_go gate) source r list (told_items list.samples told.last) told.is_told (ap (told_items list.samples) last), gained source, is)
+      one source r Taking (Some NoMemory) ledger closed whole is = inl is
+      one source r Taking None ledger closed whole is = inl is
+      one source r Dropping close ledger closed whole is = inl is
+      one source r Unnamed close ledger closed whole is = inl is
+
+      each : (source : ℕ) (r : Rest) → slice_get chosen.rests source ≡ Some r → HearsEnd (may_stop gate) (may_go gate) source r start.taken now.taken (of_source source heard.pairs)
+      each source r is = elim (slice_get_cases all source).1 [
+        | inl here ↦
+            let count = settled.count in
+            let below = here.1 in
+            let ledger = at_index ledgers source (omega arith) in
+            one source r here.0.intake.stage here.0.intake.close ledger.0
+            (same_Some ledger.0.close here.0.intake.close (sym (slice_get_map (λ ledger. ledger.close) ledgers source ledger.0 ledger.1) ∙ ap (λ closes. slice_get closes source) same ∙ slice_get_map (λ s. s.intake.close) all source here.0 here.2))
+            (chosen.each source r is here.0 ledger.0 here.2 ledger.1).whole
+            (heard.each source here.0.intake (slice_get_map (λ s. s.intake) all source here.0 here.2))
+        | inr past ↦ let e = length-map all (λ s. s.intake) in let beyond = past.0 in inl (heard.no_other source (omega arith))
+      ]
 
 pub where_ok : {A E P : Type 0} (result : Result A E) → IsOk result → OnOk result P → P
 where_ok (Ok x) ok h = h
@@ -302,3 +421,9 @@ pub refused_nothing : {T : Type 0} (count : ℕ) (taken taken' : List (ℕ × Sa
     → IsErrOf run OutOfMemory ⊎ IsErrOf run NoThread → ⊥
 refused_nothing count taken taken' fault run ended said (inl is) = subst (IsUnfinished count taken taken') (sym (error_said _ run OutOfMemory said is)) ended
 refused_nothing count taken taken' fault run ended said (inr is) = subst (IsUnfinished count taken taken') (sym (error_said _ run NoThread said is)) ended
+
+-- it is a source that is
+pub one_unfinished : (count : ℕ) (taken taken' : List (ℕ × Sample)) (fault : CollectFault) → IsUnfinished count taken taken' fault → (source : ℕ) × (fault ≡ Unfinished source)
+one_unfinished count taken taken' OutOfMemory ended = absurd ended
+one_unfinished count taken taken' NoThread ended = absurd ended
+one_unfinished count taken taken' (Unfinished source) ended = (source, refl)

@@ -181,6 +181,18 @@ more_settled may_stop may_go gives all ledgers ledgers' unfinished None (Some le
     subst (AreSettled may_stop may_go gives (all ++ started ∷ [])) (sym kept.1)
     (settled_push (subst (λ u. IfNone u (AreSettled may_stop may_go gives all ledgers)) kept.0 so_far) started ledger one)
 
+-- and so do their closes
+pub more_closes : {R G : Type 0} (all : List (RunningSource R G)) (ledgers ledgers' : List LedgerState) (unfinished result : Option ℕ) (last : Option LedgerState) (started : RunningSource R G)
+    → IfNone result ((unfinished ≡ None) × IfSome last (λ ledger. ledgers' ≡ ledgers ++ ledger ∷ []) × IsSome last)
+    → IfNone unfinished (map (λ ledger. ledger.close) ledgers ≡ map (λ running. running.intake.close) all) → IfSome last (λ ledger. ledger.close ≡ started.intake.close)
+    → IfNone result (map (λ ledger. ledger.close) ledgers' ≡ map (λ running. running.intake.close) (all ++ started ∷ []))
+more_closes all ledgers ledgers' unfinished (Some first) last started kept so_far one = tt
+more_closes all ledgers ledgers' unfinished None None started kept so_far one = absurd (true≢false (sym kept.2))
+more_closes all ledgers ledgers' unfinished None (Some ledger) started kept so_far one =
+    ap (map (λ ledger. ledger.close)) kept.1 ∙ map_push (λ ledger. ledger.close) ledgers ledger
+    ∙ (λ i. subst (λ u. IfNone u (map (λ ledger. ledger.close) ledgers ≡ map (λ running. running.intake.close) all)) kept.0 so_far i ++ one i ∷ [])
+    ∙ sym (map_push (λ running. running.intake.close) all started)
+
 pub first_below : {n source : ℕ} (unfinished result : Option ℕ) → IfSome result (λ first. (unfinished ≡ Some first) ⊎ (first ≡ source)) → IfSome unfinished (λ first. first < n) → source ≡ n
     → IfSome result (λ first. first < n + 1)
 first_below unfinished None first below at = tt

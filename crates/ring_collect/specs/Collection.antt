@@ -79,6 +79,38 @@ pub record CollectsRun (may_stop may_go : ℕ → ℕ → Type 0) (rests : List 
   pub sink : taken' ≡ taken ++ interleaved arrival (map (λ list. list.samples) found)
   pub by_source : AreOf (interleaved arrival (map (λ list. list.samples) found)) (map (λ list. list.samples) found)
 
+-- how a source ended, and how many samples of it were taken before
+abbrev pub EndOfSource : Type 0
+EndOfSource = SourceEnd × ℕ
+
+-- a sink that took these samples heard of each source its ending, once, behind all its samples
+pub record HearsAll (taken : List (ℕ × Sample)) (endings : List SourceEnd) (heard heard' : List (ℕ × EndOfSource)) : Type 0 where
+  pub pairs : List (ℕ × EndOfSource)
+  pub gained : heard' ≡ heard ++ pairs
+  pub each : (source : ℕ) (ending : SourceEnd) → slice_get endings source ≡ Some ending
+      → of_source source pairs ≡ (ending, length (of_source source taken)) ∷ []
+  pub no_other : (source : ℕ) → length endings ≤ source → of_source source pairs ≡ []
+
+-- of each of so many sources it heard an ending at most once
+pub record HearsSome (count : ℕ) (heard heard' : List (ℕ × EndOfSource)) : Type 0 where
+  pub pairs : List (ℕ × EndOfSource)
+  pub gained : heard' ≡ heard ++ pairs
+  pub once : (source : ℕ) → length (of_source source pairs) ≤ 1
+  pub no_other : (source : ℕ) → count ≤ source → of_source source pairs ≡ []
+
+-- of a source with this rest it heard nothing, or how it ended, behind all that was collected of it
+abbrev pub HearsEnd : (ℕ → ℕ → Type 0) → (ℕ → ℕ → Type 0) → ℕ → Rest → List (ℕ × Sample) → List (ℕ × Sample) → List EndOfSource → Type 0
+HearsEnd may_stop may_go source rest taken taken' ends =
+    (ends ≡ []) ⊎ ((list : Rest) × IsCollected may_stop may_go source rest list × (of_source source taken' ≡ of_source source taken ++ list.samples)
+    × (ends ≡ (list.ending, length (of_source source taken')) ∷ []))
+
+-- so of each of readers with these rests
+pub record HearsFirst (may_stop may_go : ℕ → ℕ → Type 0) (rests : List Rest) (taken taken' : List (ℕ × Sample)) (heard heard' : List (ℕ × EndOfSource)) : Type 0 where
+  pub pairs : List (ℕ × EndOfSource)
+  pub gained : heard' ≡ heard ++ pairs
+  pub each : (source : ℕ) (rest : Rest) → slice_get rests source ≡ Some rest → HearsEnd may_stop may_go source rest taken taken' (of_source source pairs)
+  pub no_other : (source : ℕ) → length rests ≤ source → of_source source pairs ≡ []
+
 -- what was collected so by a run that keeps no list: there are such lists, with these endings, and an order of arrival
 pub record FeedsRun (may_stop may_go : ℕ → ℕ → Type 0) (rests : List Rest) (taken taken' : List (ℕ × Sample)) (endings : List SourceEnd) : Type 0 where
   pub found : List ListState
@@ -101,3 +133,10 @@ AnswersRun may_stop may_go rests taken taken' answer = Answers (λ run. Collects
 -- and of one that answers endings alone
 abbrev pub AnswersFeed : (ℕ → ℕ → Type 0) → (ℕ → ℕ → Type 0) → List Rest → List (ℕ × Sample) → List (ℕ × Sample) → Result (Vec SourceEnd Global) CollectFault → Type 0
 AnswersFeed may_stop may_go rests taken taken' answer = Answers (λ endings. FeedsRun may_stop may_go rests taken taken' endings.items) may_go rests taken taken' answer
+
+-- what a sink that knows the sources of these readers hears of their ends in a run with this answer, whose endings are these on Ok: of
+-- each its ending; else of some; and unless one is unfinished of none but how it ended
+pub record TellsEnds {R Run : Type 0} (gives : R → Rest → Type 0) (may_stop may_go : ℕ → ℕ → Type 0) (readers : List R) (taken taken' : List (ℕ × Sample)) (heard heard' : List (ℕ × EndOfSource)) (endings : Run → List SourceEnd) (answer : Result Run CollectFault) : Type 0 where
+  pub all : IfOk answer (λ run. HearsAll taken' (endings run) heard heard')
+  pub some : HearsSome (length readers) heard heard'
+  pub first : ((source : ℕ) → IsErrOf answer (Unfinished source) → ⊥) → GiveSuch gives readers (λ rests. HearsFirst may_stop may_go rests taken taken' heard heard')

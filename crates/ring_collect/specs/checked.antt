@@ -1,5 +1,6 @@
 -- Definitions that no public contract cites: not to be believed, but checked with the code that cites them.
 pub mod Batches
+pub mod Ends
 pub mod FlatRecords
 pub mod Intakes
 pub mod Numbering

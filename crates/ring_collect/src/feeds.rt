@@ -1,10 +1,12 @@
 //! How a sink is fed with the samples of rows.
 
 ghost use Rattle.std.specs.Prelude.{◌≡◌, ◌<◌, ◌++◌, ◌∷◌, [], ℕ, List, OnOk, OnErr, length};
+ghost use Rattle.ring_collect.specs.checked.Ends.{Kept, unheard};
 ghost use Rattle.sample_tables.specs.Rows.{named, row_by};
 ghost use Rattle.sample_tables.specs.declared.samples.Sample.{Sample as TakenSample};
+ghost use Rattle.stack_core.specs.Interleaving.{of_source};
 
-use stack_core::{Ledger, RowSink};
+use stack_core::{Ledger, RowSink, SourceEnd};
 use std::alloc::{AllocError, Global};
 
 /// Feeds a sink of this type.
@@ -12,8 +14,8 @@ pub trait Feed<S> {
     /// What the sink has taken.
     ghost taken: { S → List (ℕ × TakenSample) };
 
-    /// What no take changes.
-    ghost setting: { S → List ℕ };
+    /// What no take changes: its own numbers, and what it was told of ends.
+    ghost setting: { S → Kept };
 
     /// Hands the sink a sample of the stack that this ledger of the source keeps under this number.
     fn feed(
@@ -33,6 +35,14 @@ pub trait Feed<S> {
         ) ∷ []) }
         ensures refused { OnErr result (taken sink.new ≡ taken sink.old) }
         ensures setting { setting sink.new ≡ setting sink.old };
+
+    /// Tells the sink that a source ended so, if it wants to know.
+    fn end(&mut self, sink: &mut S, source: u32, ending: &SourceEnd)
+        ensures taken { taken sink.new ≡ taken sink.old }
+        ensures setting { unheard (setting sink.new) ≡ unheard (setting sink.old) }
+        ensures heard { source < (setting sink.old).known → (setting sink.new).heard
+            ≡ (setting sink.old).heard
+            ++ (source, (ending.now, length (of_source source (taken sink.old)))) ∷ [] };
 }
 
 /// Hands a sink by rows the rows.
@@ -42,7 +52,7 @@ pub struct ByRows;
 impl<S: RowSink> Feed<S> for ByRows {
     ghost taken = { λ sink. S.taken sink };
 
-    ghost setting = { λ sink. S.setting sink };
+    ghost setting = { λ sink. record { numbers = S.setting sink; known = 0; heard = [] } };
 
     fn feed(
         &mut self,
@@ -55,4 +65,6 @@ impl<S: RowSink> Feed<S> for ByRows {
     ) -> Result<(), AllocError> {
         sink.take_row(alloc, source, ledger, row, weight)
     }
+
+    fn end(&mut self, _sink: &mut S, _source: u32, _ending: &SourceEnd) {}
 }

@@ -4,6 +4,7 @@
 
 mod batches;
 mod bells;
+mod ends;
 mod faults;
 mod feeds;
 mod flat_intakes;
@@ -24,6 +25,7 @@ mod sample_runs;
 mod settlement;
 mod tellers;
 
+pub use ends::EndSink;
 pub use faults::CollectFault;
 pub use row_runs::{collect_rows, feed_rows};
 pub use run_options::{LARGEST_RING, RingSize};

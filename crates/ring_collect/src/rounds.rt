@@ -1,8 +1,7 @@
 //! The collecting thread's rounds: in each it visits every ring that is not closed.
 
-ghost use Rattle.std.specs.Prelude.{◌≡◌, ◌<◌, ℕ, List, IsSome, IfSome, Bool, false, length, map, slice_get};
-ghost use Rattle.ring_collect.specs.checked.Rounds.{HasGained};
-ghost use Rattle.sample_tables.specs.declared.samples.Sample.{Sample as TakenSample};
+ghost use Rattle.std.specs.Prelude.{◌≡◌, ◌<◌, ℕ, IsSome, IfSome, length, slice_get};
+ghost use Rattle.ring_collect.specs.checked.Rounds.{GoesOn};
 
 use crate::feeds::Feed;
 use crate::intakes::Look;
@@ -29,7 +28,7 @@ pub struct Collector<R: RowReader, G: Gate> {
 }
 
 impl<R: RowReader, G: Gate> Collector<R, G> {
-    /// Looks into the ring of the source with this number, if it is not closed.
+    /// Looks into the ring of the source with this number, if it is not closed. Where that closes it, the sink is told how the source ended.
     fn look_at<S, F: Feed<S>>(
         &mut self,
         alloc: Global,
@@ -38,28 +37,24 @@ impl<R: RowReader, G: Gate> Collector<R, G> {
         sink: &mut S,
     ) -> Look
         requires { source < length self.old.sources.items }
-        ensures handles { map (λ running. running.handle) self.new.sources.items
-            ≡ map (λ running. running.handle) self.old.sources.items }
-        ensures gained { (keeps : Bool) (start : List (ℕ × TakenSample))
-            → HasGained keeps start (map (λ running. running.intake) self.old.sources.items)
-            (F.taken sink.old) self.old.order.items self.old.refused
-            → HasGained keeps start (map (λ running. running.intake) self.new.sources.items)
-            (F.taken sink.new) self.new.order.items self.new.refused }
-        ensures refused { self.new.refused ≡ false → self.old.refused ≡ false }
+        ensures goes { GoesOn self.old self.new (F.taken sink.old) (F.taken sink.new)
+            (F.setting sink.old) (F.setting sink.new) }
         ensures closed { result ≡ Look.Closed → (self.new.sources.items ≡ self.old.sources.items)
             × IfSome (slice_get self.old.sources.items source)
             (λ running. IsSome running.intake.close) }
-        ensures setting { F.setting sink.new ≡ F.setting sink.old }
     {
         let running = &mut self.sources[source];
         if running.intake.close.is_some() {
             return Look::Closed;
         }
         if self.refused {
-            return running.intake.drop_next();
+            let look = running.intake.drop_next();
+            running.intake.tell_end(feed, sink);
+            return look;
         }
         let look = running.intake.take_next(alloc, feed, sink, &mut self.order);
         self.refused = running.intake.stage.is_dropping();
+        running.intake.tell_end(feed, sink);
         look
     }
 
@@ -83,18 +78,11 @@ impl<R: RowReader, G: Gate> Collector<R, G> {
         sink: &mut S,
     ) -> Look
         requires { source < length self.old.sources.items }
-        ensures handles { map (λ running. running.handle) self.new.sources.items
-            ≡ map (λ running. running.handle) self.old.sources.items }
-        ensures gained { (keeps : Bool) (start : List (ℕ × TakenSample))
-            → HasGained keeps start (map (λ running. running.intake) self.old.sources.items)
-            (F.taken sink.old) self.old.order.items self.old.refused
-            → HasGained keeps start (map (λ running. running.intake) self.new.sources.items)
-            (F.taken sink.new) self.new.order.items self.new.refused }
-        ensures refused { self.new.refused ≡ false → self.old.refused ≡ false }
+        ensures goes { GoesOn self.old self.new (F.taken sink.old) (F.taken sink.new)
+            (F.setting sink.old) (F.setting sink.new) }
         ensures closed { result ≡ Look.Closed → (self.new.sources.items ≡ self.old.sources.items)
             × IfSome (slice_get self.old.sources.items source)
             (λ running. IsSome running.intake.close) }
-        ensures setting { F.setting sink.new ≡ F.setting sink.old }
     {
         let first = self.look_at(alloc, source, feed, sink);
         if first != Look::Moved {
@@ -112,19 +100,12 @@ impl<R: RowReader, G: Gate> Collector<R, G> {
 
     /// Visits every ring that is not closed.
     fn look_round<S, F: Feed<S>>(&mut self, alloc: Global, feed: &mut F, sink: &mut S) -> Look
-        ensures handles { map (λ running. running.handle) self.new.sources.items
-            ≡ map (λ running. running.handle) self.old.sources.items }
-        ensures gained { (keeps : Bool) (start : List (ℕ × TakenSample))
-            → HasGained keeps start (map (λ running. running.intake) self.old.sources.items)
-            (F.taken sink.old) self.old.order.items self.old.refused
-            → HasGained keeps start (map (λ running. running.intake) self.new.sources.items)
-            (F.taken sink.new) self.new.order.items self.new.refused }
-        ensures refused { self.new.refused ≡ false → self.old.refused ≡ false }
+        ensures goes { GoesOn self.old self.new (F.taken sink.old) (F.taken sink.new)
+            (F.setting sink.old) (F.setting sink.new) }
         ensures closed { result ≡ Look.Closed
             → (source : ℕ) → source < length self.new.sources.items
             → IfSome (slice_get self.new.sources.items source)
             (λ running. IsSome running.intake.close) }
-        ensures setting { F.setting sink.new ≡ F.setting sink.old }
     {
         self.taken = 0;
         let mut round = Look::Closed;
@@ -144,18 +125,11 @@ impl<R: RowReader, G: Gate> Collector<R, G> {
         feed: &mut F,
         sink: &mut S,
     )
-        ensures handles { map (λ running. running.handle) self.new.sources.items
-            ≡ map (λ running. running.handle) self.old.sources.items }
-        ensures gained { (keeps : Bool) (start : List (ℕ × TakenSample))
-            → HasGained keeps start (map (λ running. running.intake) self.old.sources.items)
-            (F.taken sink.old) self.old.order.items self.old.refused
-            → HasGained keeps start (map (λ running. running.intake) self.new.sources.items)
-            (F.taken sink.new) self.new.order.items self.new.refused }
-        ensures refused { self.new.refused ≡ false → self.old.refused ≡ false }
+        ensures goes { GoesOn self.old self.new (F.taken sink.old) (F.taken sink.new)
+            (F.setting sink.old) (F.setting sink.new) }
         ensures closed { (source : ℕ) → source < length self.new.sources.items
             → IfSome (slice_get self.new.sources.items source)
             (λ running. IsSome running.intake.close) }
-        ensures setting { F.setting sink.new ≡ F.setting sink.old }
     {
         let mut pause = pause;
         for _ in rt.forever() {

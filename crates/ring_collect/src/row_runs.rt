@@ -2,10 +2,11 @@
 
 ghost use Rattle.std.specs.Prelude.{All, ◌≡◌, ◌≤◌, [], length};
 ghost use Rattle.std.specs.Arc.{arc_value};
-ghost use Rattle.ring_collect.specs.Collection.{AnswersFeed, AnswersRun, GiveSuch};
+ghost use Rattle.ring_collect.specs.Collection.{AnswersFeed, AnswersRun, GiveSuch, TellsEnds};
 ghost use Rattle.stack_core.specs.RowReading.{GivesSome};
 
 use crate::batches::Handover;
+use crate::ends::{EndSink, WithEnds};
 use crate::faults::CollectFault;
 use crate::feeds::ByRows;
 use crate::runs::{Collected, RingedReaders};
@@ -54,12 +55,13 @@ pub fn collect_rows<
 }
 
 /// Reads every source as `collect_rows` does and feeds the sink, but keeps no sample: its memory is for names and stacks, whatever
-/// comes. It answers how each source ended, in the order of the readers.
+/// comes. The sink is told as soon as a source has ended how it did, while others go on. It answers how each source ended, in the
+/// order of the readers.
 pub fn feed_rows<
     T: Threads + Wait + Copy + Send + 'static,
     R: RowReader + Send + Drop + 'static,
     G: Gate + Send + Sync + Drop + 'static,
-    S: RowSink,
+    S: EndSink,
 >(
     rt: &T,
     alloc: Global,
@@ -77,8 +79,14 @@ pub fn feed_rows<
     ensures answer { GiveSuch (λ reader. R.gives reader) readers.items (λ rests.
         AnswersFeed (G.may_stop (arc_value gate)) (G.may_go (arc_value gate)) rests
         (S.taken sink.old) (S.taken sink.new) result) }
+
+    // The sink was told of each source how it ended; where the run is refused, of some of them.
+    ensures ends { length readers.items ≤ S.sources sink.old
+        → TellsEnds (λ reader. R.gives reader) (G.may_stop (arc_value gate)) (G.may_go (arc_value gate))
+        readers.items (S.taken sink.old) (S.taken sink.new) (S.heard sink.old) (S.heard sink.new)
+        (λ endings. endings.items) result }
     ensures setting { S.setting sink.new ≡ S.setting sink.old }
 {
     let handover = Handover::in_batches(ring);
-    RingedReaders { readers, handover }.feed_by(rt, alloc, gate, &mut ByRows, sink)
+    RingedReaders { readers, handover }.feed_by(rt, alloc, gate, &mut WithEnds, sink)
 }

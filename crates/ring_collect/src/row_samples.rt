@@ -5,7 +5,7 @@ ghost use Rattle.sample_tables.specs.Rows.{name_at, named};
 ghost use Rattle.stack_core.specs.Records.{names_at};
 
 use crate::feeds::Feed;
-use stack_core::{Ledger, Names, Sample, Sink};
+use stack_core::{Ledger, Names, Sample, Sink, SourceEnd};
 use std::alloc::{AllocError, Global};
 use std::mem;
 
@@ -104,7 +104,7 @@ impl BySamples {
 impl<S: Sink> Feed<S> for BySamples {
     ghost taken = { λ sink. S.taken sink };
 
-    ghost setting = { λ sink. S.setting sink };
+    ghost setting = { λ sink. record { numbers = S.setting sink; known = 0; heard = [] } };
 
     fn feed(
         &mut self,
@@ -118,4 +118,6 @@ impl<S: Sink> Feed<S> for BySamples {
         set_row(alloc, ledger, ledger.stack(row), weight, &mut self.sample)?;
         sink.take(alloc, source, &self.sample)
     }
+
+    fn end(&mut self, _sink: &mut S, _source: u32, _ending: &SourceEnd) {}
 }

@@ -2,7 +2,8 @@
 
 ghost use Rattle.std.specs.Prelude.{All, None, Some, false, ◌≡◌, ◌≤◌, ◌++◌, ◌⊎◌, ℕ, [], IfOk, IsErrOf, IfErr, IsOk, length, map, true, vec_capacity};
 ghost use Rattle.std.specs.Arc.{arc_value};
-ghost use Rattle.ring_collect.specs.Collection.{Answers, AnswersFeed, AnswersRun, GainsAllowed, GainsFirst, GiveSuch};
+ghost use Rattle.ring_collect.specs.Collection.{Answers, AnswersFeed, AnswersRun, GainsAllowed, GainsFirst, GiveSuch, HearsFirst, HearsSome, TellsEnds};
+ghost use Rattle.ring_collect.specs.checked.Ends.{HearsCloses, unheard};
 ghost use Rattle.ring_collect.specs.checked.WholeRuns.{HandsOut, IsUnfinished, RunsWhole};
 ghost use Rattle.ring_collect.specs.checked.Settlement.{AreListsOf};
 ghost use Rattle.stack_core.specs.Ledgers.{IsRead};
@@ -109,14 +110,22 @@ impl<R: RowReader + Send + Drop + 'static, G: Gate + Send + Sync + Drop + 'stati
             GainsFirst rests (F.taken sink.old) (F.taken sink.new)
             × (run.fault ≡ None
             → RunsWhole self.keeps (G.may_stop (arc_value gate.now)) (G.may_go (arc_value gate.now)) rests
-            run.ledgers.items run.order.items (F.taken sink.old) (F.taken sink.new)))) }
+            run.ledgers.items run.order.items (F.taken sink.old) (F.taken sink.new))
+            × (length readers.items ≤ (F.setting sink.old).known
+            → HearsFirst (G.may_stop (arc_value gate.now)) (G.may_go (arc_value gate.now)) rests
+            (F.taken sink.old) (F.taken sink.new) (F.setting sink.old).heard (F.setting sink.new).heard))) }
         ensures popped { IfOk result (λ _.
             GainsAllowed (G.may_go (arc_value gate.now)) (F.taken sink.old) (F.taken sink.new)) }
         ensures refused { IfOk result (λ run. (source : ℕ)
             → run.fault ≡ Some (CollectFault.Unfinished source) → ⊥) }
         ensures unfinished { IfErr result (λ fault.
             IsUnfinished (length readers.items) (F.taken sink.old) (F.taken sink.new) fault) }
-        ensures setting { F.setting sink.new ≡ F.setting sink.old }
+        ensures heard { length readers.items ≤ (F.setting sink.old).known → IfOk result (λ run.
+            run.fault ≡ None → HearsCloses (F.setting sink.old).heard (map (λ ledger. ledger.close) run.ledgers.items)
+            (F.taken sink.new) (F.setting sink.new).heard) }
+        ensures heard_some { length readers.items ≤ (F.setting sink.old).known
+            → HearsSome (length readers.items) (F.setting sink.old).heard (F.setting sink.new).heard }
+        ensures setting { unheard (F.setting sink.new) ≡ unheard (F.setting sink.old) }
     {
         let Room {
             rings,
@@ -183,7 +192,11 @@ impl<R: RowReader + Send + Drop + 'static> RingedReaders<R> {
             Answers (λ run. HandsOut keeps (G.may_stop (arc_value gate)) (G.may_go (arc_value gate))
             rests (F.taken sink.old) (F.taken sink.new) run.lists.items run.order.items)
             (G.may_go (arc_value gate)) rests (F.taken sink.old) (F.taken sink.new) result) }
-        ensures setting { F.setting sink.new ≡ F.setting sink.old }
+        ensures ends { length self.readers.items ≤ (F.setting sink.old).known
+            → TellsEnds (λ reader. R.gives reader) (G.may_stop (arc_value gate)) (G.may_go (arc_value gate))
+            self.readers.items (F.taken sink.old) (F.taken sink.new)
+            (F.setting sink.old).heard (F.setting sink.new).heard (λ run. map (λ list. list.ending) run.lists.items) result }
+        ensures setting { unheard (F.setting sink.new) ≡ unheard (F.setting sink.old) }
     {
         let RingedReaders { readers, handover } = self;
         let room = Room::new(alloc, readers.len(), handover, keeps)?;
@@ -219,7 +232,7 @@ impl<R: RowReader + Send + Drop + 'static> RingedReaders<R> {
         ensures answer { GiveSuch (λ reader. R.gives reader) self.readers.items (λ rests.
             AnswersRun (G.may_stop (arc_value gate)) (G.may_go (arc_value gate)) rests
             (F.taken sink.old) (F.taken sink.new) result) }
-        ensures setting { F.setting sink.new ≡ F.setting sink.old }
+        ensures setting { unheard (F.setting sink.new) ≡ unheard (F.setting sink.old) }
     {
         self.run_by(rt, alloc, gate, true, feed, sink)
     }
@@ -245,7 +258,11 @@ impl<R: RowReader + Send + Drop + 'static> RingedReaders<R> {
         ensures answer { GiveSuch (λ reader. R.gives reader) self.readers.items (λ rests.
             AnswersFeed (G.may_stop (arc_value gate)) (G.may_go (arc_value gate)) rests
             (F.taken sink.old) (F.taken sink.new) result) }
-        ensures setting { F.setting sink.new ≡ F.setting sink.old }
+        ensures ends { length self.readers.items ≤ (F.setting sink.old).known
+            → TellsEnds (λ reader. R.gives reader) (G.may_stop (arc_value gate)) (G.may_go (arc_value gate))
+            self.readers.items (F.taken sink.old) (F.taken sink.new)
+            (F.setting sink.old).heard (F.setting sink.new).heard (λ endings. endings.items) result }
+        ensures setting { unheard (F.setting sink.new) ≡ unheard (F.setting sink.old) }
     {
         let run = self.run_by(rt, alloc, gate, false, feed, sink)?;
         Ok(endings_of(alloc, run.lists)?)

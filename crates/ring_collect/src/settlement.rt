@@ -1,6 +1,6 @@
 //! The end of a run: every thread is joined, and what its reader promised shows that all was received.
 
-ghost use Rattle.std.specs.Prelude.{◌≡◌, ◌≢◌, ◌≤◌, ◌<◌, ◌+◌, ◌++◌, ◌∷◌, ◌⊎◌, None, Some, ℕ, List, [], IsSome, IfSome, IfNone, length, vec_capacity, slice_get};
+ghost use Rattle.std.specs.Prelude.{◌≡◌, ◌≢◌, ◌≤◌, ◌<◌, ◌+◌, ◌++◌, ◌∷◌, ◌⊎◌, None, Some, ℕ, List, [], IsSome, IfSome, IfNone, length, map, vec_capacity, slice_get};
 ghost use Rattle.std.specs.Arc.{arc_value};
 ghost use Rattle.rtrb.specs.Ring.{all_sent, IsFinishedOf};
 ghost use Rattle.stack_core.specs.Records.{IsWellTold};
@@ -24,6 +24,7 @@ fn settle_by(left: Option<LeftOfRing>, intake: Intake) -> Option<Ledger>
     ensures received { IfSome left (λ left. IfSome result (IsReceived (records_of_all (all_sent left)) intake)) }
     ensures unshown { IfNone left (result ≡ None) }
     ensures unnamed { intake.stage ≡ Stage.Unnamed → result ≡ None }
+    ensures closed { IfSome result (λ ledger. ledger.close ≡ intake.close) }
     ensures whole { (list : List Sample) → Tracks intake list
         → IfSome left (λ _. (intake.stage ≢ Stage.Unnamed) × IsSome result) }
 {
@@ -49,9 +50,10 @@ fn settle_by(left: Option<LeftOfRing>, intake: Intake) -> Option<Ledger>
 /// Joins the thread of a source whose ring is closed, and hands its ledger out.
 fn settle<T: Threads, R: RowReader, G: Gate>(rt: &T, running: RunningSource<R, G>) -> Option<Ledger>
     requires { IsSome running.intake.close }
-    ensures { IfSome result (λ ledger.
+    ensures settled { IfSome result (λ ledger.
         IsSettled (λ gate. G.may_stop gate) (λ gate. G.may_go gate) (λ reader. R.gives reader)
         running ledger) }
+    ensures closed { IfSome result (λ ledger. ledger.close ≡ running.intake.close) }
 {
     let RunningSource {
         handle,
@@ -104,6 +106,8 @@ pub fn settle_all<T: Threads, R: RowReader, G: Gate>(
     requires none { ledgers.old.items ≡ [] }
     ensures settled { IfNone result (AreSettled (λ gate. G.may_stop gate) (λ gate. G.may_go gate)
         (λ reader. R.gives reader) sources.items ledgers.new.items) }
+    ensures closes { IfNone result (map (λ ledger. ledger.close) ledgers.new.items
+        ≡ map (λ running. running.intake.close) sources.items) }
     ensures unfinished { IfSome result (λ source. source < length sources.items) }
 {
     let mut unfinished = None;

@@ -11,9 +11,9 @@ use Rattle.ring_collect.specs.declared.intakes.Origin.{Origin}
 use Rattle.ring_collect.specs.declared.intakes.Stage.{Stage}
 use Rattle.ring_collect.specs.declared.intakes.Stage.TheVariants.{Taking, Dropping, Unnamed}
 
--- the pairs of a source and its samples
-abbrev pub of_one : ℕ → List Sample → List (ℕ × Sample)
-of_one source samples = map (λ sample. (source, sample)) samples
+-- the pairs of a source and its items
+abbrev pub of_one : {A : Type 0} → ℕ → List A → List (ℕ × A)
+of_one source items = map (λ item. (source, item)) items
 
 -- each number of a row has a name, and the number of a row that is told again is that of a stack
 abbrev pub IsNamed : List (List ℕ) → List (List ℕ) → RingRecord → Type 0

@@ -45,7 +45,7 @@ returns g c =
       refused = answer.refused;
       popped = answer.popped;
       unfinished = λ source fault. subst (λ n. Unfinishes n source taken taken') (length-map c.args.readers.items g.R.SampleReader.rest) (answer.unfinished source fault);
-      setting = c.collect_by.ensures.setting;
+      setting = ap (λ kept. kept.numbers) c.collect_by.ensures.setting;
     }
 
 pub collect_by-requires-clause-few : goal.collect_by-requires-clause-few

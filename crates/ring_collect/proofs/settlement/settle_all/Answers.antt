@@ -1,8 +1,8 @@
-use Rattle.std.proofs.Common.{◌≡◌, ◌+◌, ◌<◌, ◌∙◌, ◌++◌, ◌∷◌, [], length, sym, ap, subst, arith, length-append, IfNone, IfSome, IsSome, slice_get, append-nil}
+use Rattle.std.proofs.Common.{◌≡◌, ◌+◌, ◌<◌, ◌∙◌, ◌++◌, ◌∷◌, [], length, map, sym, ap, subst, arith, length-append, IfNone, IfSome, IsSome, slice_get, append-nil}
 use Rattle.std.specs.Vec.Iter.{into_iter_items}
 use Rattle.ring_collect.specs.checked.Settlement.{AreSettled}
 use Rattle.ring_collect.proofs.RunningSourceLemmas.{taken_fewer, taken_front, taken_next}
-use Rattle.ring_collect.proofs.SettlementLemmas.{more_settled, first_below, no_items}
+use Rattle.ring_collect.proofs.SettlementLemmas.{more_closes, more_settled, first_below, no_items}
 use Rattle.ring_collect.proofs.settlement.settle_all.Goals as goal
 
 pub settle-requires : goal.settle-requires
@@ -34,7 +34,8 @@ loop-running-preserved g c =
       source = ap (λ n. n + 1) so_far.source ∙ sym one_more;
       room = let room = so_far.room in let more = added.room in omega arith;
       ledgers = let before = so_far.ledgers in let one = added.one in omega arith;
-      settled = more_settled (λ gate. g.G.Gate.may_stop gate) (λ gate. g.G.Gate.may_go gate) (λ reader. g.R.RowReader.gives reader) c.loop-running.yielded c.loop-running.ledgers.items c.add_ledger-unfinished.new.ledgers.items c.loop-running.unfinished c.add_ledger-unfinished.result c.settle.result c.in-Some.running added.added so_far.settled c.settle.ensures;
+      settled = more_settled (λ gate. g.G.Gate.may_stop gate) (λ gate. g.G.Gate.may_go gate) (λ reader. g.R.RowReader.gives reader) c.loop-running.yielded c.loop-running.ledgers.items c.add_ledger-unfinished.new.ledgers.items c.loop-running.unfinished c.add_ledger-unfinished.result c.settle.result c.in-Some.running added.added so_far.settled c.settle.ensures.settled;
+      closes = more_closes c.loop-running.yielded c.loop-running.ledgers.items c.add_ledger-unfinished.new.ledgers.items c.loop-running.unfinished c.add_ledger-unfinished.result c.settle.result c.in-Some.running added.added so_far.closes c.settle.ensures.closed;
       unfinished = subst (λ n. IfSome c.add_ledger-unfinished.result (λ first. first < n)) (sym one_more) (first_below c.loop-running.unfinished c.add_ledger-unfinished.result added.first so_far.unfinished so_far.source);
     }
 
@@ -49,6 +50,10 @@ whole g c =
 pub returns-clause-settled : goal.returns-clause-settled
 returns-clause-settled g c =
     subst (λ all. IfNone c.loop-running.unfinished (AreSettled (λ gate. g.G.Gate.may_stop gate) (λ gate. g.G.Gate.may_go gate) (λ reader. g.R.RowReader.gives reader) all c.loop-running.ledgers.items)) (sym (whole g c)) c.loop-running.invariant.settled
+
+pub returns-clause-closes : goal.returns-clause-closes
+returns-clause-closes g c =
+    subst (λ all. IfNone c.loop-running.unfinished (map (λ ledger. ledger.close) c.loop-running.ledgers.items ≡ map (λ running. running.intake.close) all)) (sym (whole g c)) c.loop-running.invariant.closes
 
 pub returns-clause-unfinished : goal.returns-clause-unfinished
 returns-clause-unfinished g c = subst (λ all. IfSome c.loop-running.unfinished (λ source. source < length all)) (sym (whole g c)) c.loop-running.invariant.unfinished

@@ -1,4 +1,4 @@
-use Rattle.std.proofs.Common.{◌≡◌, ◌≤◌, ◌<◌, length, vec_capacity, IfSome, IfNone}
+use Rattle.std.proofs.Common.{◌≡◌, ◌≤◌, ◌<◌, length, map, vec_capacity, IfSome, IfNone}
 use Rattle.ring_collect.specs.checked.Settlement.{AreSettled}
 use Rattle.ring_collect.proofs.settlement.settle_all.Given as goal
 
@@ -10,5 +10,6 @@ invariant-loop-running g l = record {
   room : length l.fn.sources.items ≤ vec_capacity l.ledgers;
   ledgers : length l.ledgers.items ≤ length l.yielded;
   settled : IfNone l.unfinished (AreSettled (λ gate. g.G.Gate.may_stop gate) (λ gate. g.G.Gate.may_go gate) (λ reader. g.R.RowReader.gives reader) l.yielded l.ledgers.items);
+  closes : IfNone l.unfinished (map (λ ledger. ledger.close) l.ledgers.items ≡ map (λ running. running.intake.close) l.yielded);
   unfinished : IfSome l.unfinished (λ source. source < length l.yielded);
 }

@@ -3,6 +3,7 @@
 ghost use Rattle.std.specs.Prelude.{◌≡◌, None};
 
 use byte_io::{BytesInlet, Inlet};
+use ring_collect::EndSink;
 use stack_core::{
     Gate, Ledger, Names, NoSink, RowSink, Sample, SampleReader, Sink, SourceEnd, Step, Turn,
 };
@@ -27,6 +28,8 @@ pub struct Counts {
     pub given: AtomicU64,
     /// The samples that the sink took.
     pub takes: AtomicU64,
+    /// The sources of whose end the sink was told.
+    pub ends: AtomicU64,
 }
 
 impl Counts {
@@ -36,6 +39,7 @@ impl Counts {
             drops: AtomicU64::new(0),
             given: AtomicU64::new(0),
             takes: AtomicU64::new(0),
+            ends: AtomicU64::new(0),
         };
         Ok(Arc::new(alloc, counts)?)
     }
@@ -235,6 +239,25 @@ impl Gate for AfterATake {
     }
 }
 
+/// Lets each sample of source 0 but the first go once the sink was told of an end.
+#[derive(Drop)]
+pub struct AfterAnEnd {
+    pub counts: Arc<Counts>,
+}
+
+impl Gate for AfterAnEnd {
+    ghost may_stop = { λ _ _ _. Unit {0} };
+
+    ghost may_go = { λ _ _ _. Unit {0} };
+
+    fn before(&self, source: u32, index: u64) -> Turn {
+        if source != 0 || index == 0 {
+            return Turn::Go;
+        }
+        waited(&self.counts.ends, 1)
+    }
+}
+
 /// Records what it took.
 #[derive(Drop)]
 pub struct Recorder {
@@ -344,6 +367,53 @@ impl RowSink for Weigher {
     ) -> Result<(), AllocError> {
         self.pairs.push((source, weight))?;
         self.taken.take_row(alloc, source, ledger, row, weight)
+    }
+}
+
+/// Weighs what it takes, and keeps what it is told of ends.
+#[derive(Drop)]
+pub struct Listener {
+    pub weigher: Weigher,
+    pub ends: Vec<(u32, SourceEnd)>,
+    pub counts: Arc<Counts>,
+}
+
+impl Listener {
+    pub fn new(alloc: Global) -> Result<Listener, AllocError> {
+        Ok(Listener {
+            weigher: Weigher::new(alloc),
+            ends: Vec::with_capacity(alloc, 8)?,
+            counts: Counts::new(alloc)?,
+        })
+    }
+}
+
+impl EndSink for Listener {
+    ghost use Rattle.std.specs.Prelude.{[]};
+
+    ghost taken = { λ sink. sink.weigher.taken };
+
+    ghost setting = { λ _. [] };
+
+    ghost sources = { λ _. 0 };
+
+    ghost heard = { λ _. [] };
+
+    fn take_row(
+        &mut self,
+        alloc: Global,
+        source: u32,
+        ledger: &Ledger,
+        row: usize,
+        weight: u64,
+    ) -> Result<(), AllocError> {
+        self.weigher.take_row(alloc, source, ledger, row, weight)
+    }
+
+    fn end_source(&mut self, source: u32, ending: &SourceEnd) {
+        if self.ends.push((source, *ending)).is_ok() {
+            self.counts.ends.fetch_add(1, Ordering::SeqCst);
+        }
     }
 }
 

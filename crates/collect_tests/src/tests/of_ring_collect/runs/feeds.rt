@@ -2,12 +2,12 @@
 
 ghost use Rattle.std.specs.Prelude.{◌≡◌, ◌≤◌, [], length, All, IfOk};
 
-use super::fakes::{StopsAt, Weigher};
+use super::fakes::{AfterAnEnd, Listener, StopsAt, Weigher};
 use super::shared;
 use crate::tests::holds;
 use folded_lines::FoldedRows;
 use ring_collect::{CollectFault, RingSize, collect_rows, feed_rows};
-use stack_core::{NoSink, OpenGate, ReadFault, ReadKind, SourceEnd};
+use stack_core::{OpenGate, ReadFault, ReadKind, SourceEnd};
 use std::alloc::{AllocError, Global};
 use std::sync::{Arc, Wait};
 use std::test::Fail;
@@ -93,10 +93,27 @@ fn feeds<T: Threads + Wait + Copy + Send + 'static>(
     alloc: Global,
     ring: RingSize,
 ) -> Result<bool, CollectFault> {
-    let mut sink = Weigher::new(alloc);
+    let mut sink = Listener::new(alloc)?;
     let gate = stopping(alloc)?;
     let endings = feed_rows(rt, alloc, readers(alloc)?, ring, gate, &mut sink)?;
-    Ok(has_all(&sink) && endings.as_slice() == ENDINGS.as_slice())
+    Ok(
+        has_all(&sink.weigher)
+            && endings.as_slice() == ENDINGS.as_slice()
+            && hears_each(&sink, &ENDINGS),
+    )
+}
+
+/// The sink was told of these three sources how each ended, and of none twice.
+fn hears_each(sink: &Listener, endings: &[SourceEnd; 3]) -> bool {
+    let mut heard = 0usize;
+    for source in 0..3u32 {
+        for (of, ending) in &sink.ends {
+            if *of == source && *ending == endings[source as usize] {
+                heard = heard.saturating_add(1);
+            }
+        }
+    }
+    heard == 3 && sink.ends.len() == 3
 }
 
 /// The sink is fed as by a run that keeps lists, and each ending is answered.
@@ -115,8 +132,9 @@ fn feeds_nothing<T: Threads + Wait + Copy + Send + 'static>(
 ) -> Result<bool, CollectFault> {
     let gate = shared(alloc, OpenGate)?;
     let none: Vec<FoldedRows> = Vec::new(alloc);
-    let endings = feed_rows(rt, alloc, none, ring, gate, &mut NoSink::new())?;
-    Ok(endings.is_empty())
+    let mut sink = Listener::new(alloc)?;
+    let endings = feed_rows(rt, alloc, none, ring, gate, &mut sink)?;
+    Ok(endings.is_empty() && sink.ends.is_empty())
 }
 
 #[test]
@@ -125,4 +143,36 @@ fn no_readers(rt: HostRuntime) -> Result<(), Fail> {
         &rt,
         feeds_nothing(&rt, rt.alloc(), RingSize::of(1).unwrap()),
     )
+}
+
+/// How the sources end where none is stopped.
+const WHOLE: [SourceEnd; 3] = [
+    SourceEnd::Clean { ignored: 1 },
+    SourceEnd::Fault(ReadFault {
+        kind: ReadKind::DecimalWeight,
+        at: 2,
+    }),
+    SourceEnd::Clean { ignored: 0 },
+];
+
+/// The first source goes on only once the sink was told of the end of another.
+fn hears_before_all_end<T: Threads + Wait + Copy + Send + 'static>(
+    rt: &T,
+    alloc: Global,
+    ring: RingSize,
+) -> Result<bool, CollectFault> {
+    let mut sink = Listener::new(alloc)?;
+    let gate = AfterAnEnd {
+        counts: Arc::try_clone(&sink.counts)?,
+    };
+    let gate = shared(alloc, gate)?;
+    let endings = feed_rows(rt, alloc, readers(alloc)?, ring, gate, &mut sink)?;
+    Ok(endings.as_slice() == WHOLE.as_slice() && hears_each(&sink, &WHOLE))
+}
+
+#[test]
+fn an_end_is_told_while_others_go_on(rt: HostRuntime) -> Result<(), Fail> {
+    let [small, large] = [RingSize::of(1).unwrap(), RingSize::of(64).unwrap()];
+    holds(&rt, hears_before_all_end(&rt, rt.alloc(), small))?;
+    holds(&rt, hears_before_all_end(&rt, rt.alloc(), large))
 }

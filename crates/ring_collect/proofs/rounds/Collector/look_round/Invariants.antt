@@ -1,20 +1,12 @@
-use Rattle.std.proofs.Common.{Bool, false, ◌≡◌, ◌<◌, ℕ, List, length, map, slice_get, IfSome, IsSome}
-use Rattle.sample_tables.specs.declared.samples.Sample.{Sample}
-use Rattle.ring_collect.specs.checked.Rounds.{HasGained}
+use Rattle.std.proofs.Common.{◌≡◌, ◌<◌, ℕ, length, slice_get, IfSome, IsSome}
+use Rattle.ring_collect.specs.checked.Rounds.{GoesOn}
 use Rattle.ring_collect.specs.declared.intakes.Look.TheVariants.{Closed}
 use Rattle.ring_collect.proofs.rounds.Collector.look_round.Given as goal
 
 -- while all are closed nothing has changed
 abbrev pub invariant-loop-source : goal.invariant-loop-source
-invariant-loop-source g l =
-    let taken = g.F.Feed.taken in
-    let was = l.fn.self in
-    record {
-      count : length l.self.sources.items ≡ length was.sources.items;
-      handles : map (λ running. running.handle) l.self.sources.items ≡ map (λ running. running.handle) was.sources.items;
-      gained : (keeps : Bool) (start : List (ℕ × Sample)) → HasGained keeps start (map (λ running. running.intake) was.sources.items) (taken l.fn.sink) was.order.items was.refused
-          → HasGained keeps start (map (λ running. running.intake) l.self.sources.items) (taken l.sink) l.self.order.items l.self.refused;
-      closed : l.round ≡ Closed → (source : ℕ) → source < l.source → IfSome (slice_get l.self.sources.items source) (λ running. IsSome running.intake.close);
-      refused : l.self.refused ≡ false → was.refused ≡ false;
-      setting : g.F.Feed.setting l.sink ≡ g.F.Feed.setting l.fn.sink;
-    }
+invariant-loop-source g l = record {
+  count : length l.self.sources.items ≡ length l.fn.self.sources.items;
+  goes : GoesOn l.fn.self l.self (g.F.Feed.taken l.fn.sink) (g.F.Feed.taken l.sink) (g.F.Feed.setting l.fn.sink) (g.F.Feed.setting l.sink);
+  closed : l.round ≡ Closed → (source : ℕ) → source < l.source → IfSome (slice_get l.self.sources.items source) (λ running. IsSome running.intake.close);
+}

@@ -1,12 +1,13 @@
-use Rattle.std.proofs.Common.{◌≡◌, ◌∙◌, Bool, Some, refl, sym, ap, subst, length}
+use Rattle.std.proofs.Common.{◌≡◌, ◌∙◌, Bool, Some, map, refl, sym, ap, subst, length}
 use Rattle.std.proofs.lemmas.Result.{IfOk-from_err}
 use Rattle.std.specs.Arc.{arc_value}
 use Rattle.ring_collect.specs.Collection.{Unfinishes}
 use Rattle.ring_collect.specs.checked.WholeRuns.{IsUnfinished, RunsWhole}
+use Rattle.stack_core.specs.declared.endings.Close.TheVariants.{Read}
 use Rattle.ring_collect.specs.declared.faults.CollectFault.TheVariants.{Unfinished}
-use Rattle.ring_collect.proofs.Outcomes.{error_said}
+use Rattle.ring_collect.proofs.Outcomes.{err_is, error_said}
 use Rattle.ring_collect.proofs.GivenRests.{any_given}
-use Rattle.ring_collect.proofs.RunLemmas.{allows_nothing, gains_nothing, refused_nothing}
+use Rattle.ring_collect.proofs.RunLemmas.{allows_nothing, gains_nothing, hears_all, hears_no_first, hears_nothing, map_twice, one_unfinished, refused_nothing}
 use Rattle.ring_collect.proofs.CollectionLemmas.{hands_out}
 use Rattle.ring_collect.proofs.runs.RingedReaders.run_by.Goals as goal
 
@@ -18,6 +19,11 @@ returns-in_err-room g c = record {
     popped = λ _. allows_nothing (g.G.Gate.may_go (arc_value c.args.gate)) (g.F.Feed.taken c.args.sink.now);
     unfinished = λ source fault. let other = error_said _ c.from_residual.result (Unfinished source) c.from_residual.ensures.1 fault in cc;
   });
+  ends = λ few. record {
+    all = IfOk-from_err _ _ c.from_residual.ensures.0;
+    some = hears_nothing _ _;
+    first = λ finished. any_given (λ reader. g.R.RowReader.gives reader) c.args.self.readers.items c.requires.possible (λ rests same. hears_no_first _ _ rests _ _);
+  };
   setting = refl;
 }
 
@@ -37,6 +43,13 @@ returns-in_err-run g c =
             subst (λ count. Unfinishes count source taken taken') (sym same)
             (subst (IsUnfinished (length readers) taken taken') said c.in_err-run.ensures.unfinished);
       });
+      ends = λ few. record {
+        all = IfOk-from_err _ _ c.from_residual-in_err-run.ensures.0;
+        some = c.run_sources.ensures.heard_some few;
+        first = λ finished.
+            let one = one_unfinished (length readers) taken taken' c.in_err-run.field-0.0 c.in_err-run.ensures.unfinished in
+            absurd (finished one.0 (err_is c.from_residual-in_err-run.result c.in_err-run.field-0.0 (Unfinished one.0) c.from_residual-in_err-run.ensures.1 one.1));
+      };
       setting = c.run_sources.ensures.setting;
     }
 
@@ -54,6 +67,11 @@ returns-in_err-lists g c =
           unfinished = λ source fault. let other = error_said _ c.from_residual-in_err-lists.result (Unfinished source) c.from_residual-in_err-lists.ensures.1 fault in cc;
         };
       };
+      ends = λ few. record {
+        all = IfOk-from_err _ _ c.from_residual-in_err-lists.ensures.0;
+        some = c.run_sources.ensures.heard_some few;
+        first = λ finished. record { rests = given.rests; are_given = given.are_given; holds = given.holds.2 few };
+      };
       setting = c.run_sources.ensures.setting;
     }
 
@@ -70,6 +88,11 @@ returns-in-Some g c =
           popped = λ _. c.in_ok-run.ensures.popped;
           unfinished = λ source fault. let same : c.in-Some.fault ≡ Unfinished source = cc in absurd (c.in_ok-run.ensures.refused source (c.in-Some.is ∙ ap (λ fault. Some fault) same));
         };
+      };
+      ends = λ few. record {
+        all = tt;
+        some = c.run_sources.ensures.heard_some few;
+        first = λ finished. record { rests = given.rests; are_given = given.are_given; holds = given.holds.2 few };
       };
       setting = c.run_sources.ensures.setting;
     }
@@ -89,6 +112,13 @@ returns g c =
           popped = λ _. c.in_ok-run.ensures.popped;
           unfinished = λ source fault. cc;
         };
+      };
+      ends = λ few. record {
+        all =
+            let lists = c.in_ok-lists.ensures in
+            hears_all _ (map (λ list. list.ending) c.in_ok-lists.lists.items) (map_twice (λ list. list.ending) (λ ending. Some (Read ending)) c.in_ok-lists.lists.items ∙ lists.closes) (c.in_ok-run.ensures.heard few c.in-None.is);
+        some = c.run_sources.ensures.heard_some few;
+        first = λ finished. record { rests = given.rests; are_given = given.are_given; holds = given.holds.2 few };
       };
       setting = c.run_sources.ensures.setting;
     }
