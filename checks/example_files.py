@@ -31,8 +31,8 @@ class Answer:
 
 @dataclasses.dataclass
 class Example:
-    """A run: the line where it stands, as it is written there; its words, its streams that lead elsewhere, what stands before its `$`, and what
-    must come."""
+    """A run: the line where it stands, as it is written there; its words, its streams that lead elsewhere, what stands before its `$`,
+    and what must come."""
 
     line: int
     written: str

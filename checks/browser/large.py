@@ -1,4 +1,5 @@
-"""A page of 10^6 boxes: how long it takes to the first paint, to a zoom, to a search and to another order. These are figures, printed and not asserted."""
+"""A page of 10^6 boxes: how long it takes to the first paint, to a zoom, to a search and to another order. These are figures, printed and
+not asserted."""
 import os
 import pathlib
 import random

@@ -9,7 +9,8 @@ from painted_drawing import Data, Drawing, Span
 
 @dataclass
 class Way:
-    """What leads up or down from a function: the weight of the samples that go there, that of those which end there, and what comes next."""
+    """What leads up or down from a function: the weight of the samples that go there, that of those which end there, and what comes
+    next."""
     weight: int = 0
     own: int = 0
     steps: dict[int, Way] = field(default_factory=dict)
@@ -57,7 +58,8 @@ class Columns:
 
 
 def laid_out(way: Way, other: Way | None) -> Iterator[tuple[int, int, int, Way, Way | None]]:
-    """The ways that begin with one: of each its depth, its name and its start, and what the other profile has of it. The heaviest come first."""
+    """The ways that begin with one: of each its depth, its name and its start, and what the other profile has of it. The heaviest come
+    first."""
     waiting = [(0, name, 0, each, other and other.steps.get(name)) for name, each in way.steps.items()]
     while waiting:
         depth, _, start, each, there = chosen = waiting.pop()
@@ -70,7 +72,8 @@ def laid_out(way: Way, other: Way | None) -> Iterator[tuple[int, int, int, Way, 
 
 
 class Callers(Drawing):
-    """The callers and callees of a function: it stands in the row `centre`, what calls it in those before, and what it calls in those behind."""
+    """The callers and callees of a function: it stands in the row `centre`, what calls it in those before, and what it calls in those
+    behind."""
 
     def __init__(self, columns: Data, number: int, centre: int):
         super().__init__(columns, number)
@@ -89,7 +92,8 @@ class Callers(Drawing):
 
 
 def callers_of(drawing: Drawing, there: Drawing | None, name: int) -> Drawing:
-    """What calls a function and what it calls, in all samples with it. Its box is the first; then come its callers, and then its callees."""
+    """What calls a function and what it calls, in all samples with it. Its box is the first; then come its callers, and then its
+    callees."""
     up, down = ways_of(drawing, name)
     other_up, other_down = ways_of(there, name) if there else (None, None)
     above, below = list(laid_out(up, other_up)), list(laid_out(down, other_down))

@@ -74,7 +74,8 @@ def of_name(palette: Palette, name: str) -> Colour:
 
 
 def of_package(palette: Palette, package: str, name: str) -> Colour:
-    """The hue is that which the package, or the name where it has none, would have as a name, and the step of lightness that of the name."""
+    """The hue is that which the package, or the name where it has none, would have as a name, and the step of lightness that of the
+    name."""
     saturation, lightest = palette.plain
     return hsl(name_number(package or name) % HUES * 360 / HUES, saturation, lightest + name_number(name) // HUES * 4)
 

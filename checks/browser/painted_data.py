@@ -16,9 +16,9 @@ from told_boxes import with_boxes
 
 @dataclass(frozen=True)
 class View:
-    """What is looked at: a drawing, the zoomed box or source or a part of a chart, a search, where the root stands, whether shares are compared, the function whose
-    callers and callees are shown, whether heavy boxes come first, whether the sources of a chart stand side by side, and whether colours
-    are by package."""
+    """What is looked at: a drawing, the zoomed box or source or a part of a chart, a search, where the root stands, whether shares are
+    compared, the function whose callers and callees are shown, whether heavy boxes come first, whether the sources of a chart stand side
+    by side, and whether colours are by package."""
     drawing: int
     box: int = 0
     source: int = -1

@@ -1,5 +1,5 @@
-"""The boxes of one drawing by rows, and where a box stands in what is looked at. Written from docs/PAGE-DATA.md and docs/OUTPUT.md; nothing here is
-taken from the page's scripts.
+"""The boxes of one drawing by rows, and where a box stands in what is looked at. Written from docs/PAGE-DATA.md and docs/OUTPUT.md;
+nothing here is taken from the page's scripts.
 """
 from __future__ import annotations
 

@@ -64,8 +64,8 @@ class Labels:
                 yield Fault('e', f'{called} is painted over')
 
     def wanted(self, box: Box) -> list[str]:
-        """The labels that the box may have where nothing is cut, from the longest to the shortest: in a comparison the name with its change, and
-        the name and its shorter forms."""
+        """The labels that the box may have where nothing is cut, from the longest to the shortest: in a comparison the name with its
+        change, and the name and its shorter forms."""
         drawing, document = self.sight.drawing, self.sight.document
         forms = words.forms(document.name(drawing, box.number))
         if drawing.other is None:

@@ -22,8 +22,8 @@ class Fault(NamedTuple):
 
 
 class Layout(NamedTuple):
-    """The top of the first place for a row, how many there are, whether the root has the lowest, how high what stands above is, the sources and
-    the axis of a chart, and the first row of which anything is painted."""
+    """The top of the first place for a row, how many there are, whether the root has the lowest, how high what stands above is, the
+    sources and the axis of a chart, and the first row of which anything is painted."""
     top: float
     rows: int
     below: bool

@@ -1,5 +1,5 @@
-"""The pages that the check looks at. Some are what the program writes of folded text or of pprof profiles; others are columns that were made
-here and put between the head and the tail, which have their boxes in any order and of any weight.
+"""The pages that the check looks at. Some are what the program writes of folded text or of pprof profiles; others are columns that were
+made here and put between the head and the tail, which have their boxes in any order and of any weight.
 """
 from __future__ import annotations
 

@@ -1,5 +1,5 @@
-"""What of a row is to be painted as one: a box that is a pixel wide or wider, a narrower one that begins alone in its pixel, or all narrower
-ones that begin in one pixel, joined.
+"""What of a row is to be painted as one: a box that is a pixel wide or wider, a narrower one that begins alone in its pixel, or all
+narrower ones that begin in one pixel, joined.
 """
 from __future__ import annotations
 
@@ -95,8 +95,8 @@ class Sight:
         return colour(inks)
 
     def joined_colour(self, boxes: list[int]) -> Colour:
-        """The colour of boxes that are painted as one. While a search is on, that of matches where all match, that of what steps back where none
-        does, and one of its own where some do."""
+        """The colour of boxes that are painted as one. While a search is on, that of matches where all match, that of what steps back
+        where none does, and one of its own where some do."""
         if self.matching is None:
             return self.joined
         matching = sum(map(self.is_match, boxes))

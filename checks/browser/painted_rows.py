@@ -71,8 +71,8 @@ class Row:
                               if rectangle.width < WIDE and has_colour(rectangle, place))
 
     def painted(self, place: Place) -> Ordered | None:
-        """The rectangle that stands for a place: the last painted over its middle. What is narrow may be painted beside its middle, for want of
-        room: of what is near that of its colour is taken, and rather one that stands for nothing else."""
+        """The rectangle that stands for a place: the last painted over its middle. What is narrow may be painted beside its middle, for
+        want of room: of what is near that of its colour is taken, and rather one that stands for nothing else."""
         over = self.strip.at(place.middle)
         if over and (place.width >= WIDE or self.preference(place, *over[0])[:2] == (False, False) and is_near(over[0][1], place)):
             return over[0]
@@ -83,7 +83,8 @@ class Row:
         return not has_colour(rectangle, place), order in self.explained, round(distance(rectangle, place), 3), -order
 
     def is_seen(self, rectangle: Rectangle, place: Place) -> bool:
-        """Whether the rectangle lies over all others where its place is. Where it had to be painted beside its place, it may lie under others."""
+        """Whether the rectangle lies over all others where its place is. Where it had to be painted beside its place, it may lie under
+        others."""
         left, right = max(rectangle.left, place.left), min(rectangle.right, place.right)
         return right <= left or is_same(self.strip.at((left + right) / 2)[0][1].fill, rectangle.fill)
 

@@ -1,6 +1,6 @@
-"""Looks at the SVG that the program writes as the browser lays it out: rectangles, labels and colours, compared with the line of JSON of the same
-samples. Where rectangles stand and what titles tell is compared as checks/pictures does, which reads the same SVG as XML. The letters of faults
-are said in painted_layout.py.
+"""Looks at the SVG that the program writes as the browser lays it out: rectangles, labels and colours, compared with the line of JSON of
+the same samples. Where rectangles stand and what titles tell is compared as checks/pictures does, which reads the same SVG as XML. The
+letters of faults are said in painted_layout.py.
 """
 from __future__ import annotations
 

@@ -1,4 +1,5 @@
-"""What the table of functions has to have, of the data of a page. Written from docs/OUTPUT.md; nothing here is taken from the page's scripts."""
+"""What the table of functions has to have, of the data of a page. Written from docs/OUTPUT.md; nothing here is taken from the page's
+scripts."""
 from __future__ import annotations
 
 from collections import Counter

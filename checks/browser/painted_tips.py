@@ -45,8 +45,8 @@ def tip_places(drawn: random.Random, sight: Sight, paint: Paint, layout: Layout,
 
 
 def boxes_at(row: Row, places: list[Place], across: float) -> list[int] | None:
-    """The boxes for which the rectangle over a point stands; no boxes where none is near. None where it is open what is told, as on the line
-    between two boxes."""
+    """The boxes for which the rectangle over a point stands; no boxes where none is near. None where it is open what is told, as on the
+    line between two boxes."""
     for order, rectangle in row.strip.at(across)[:1]:
         place = row.explained.get(order)
         is_inside = rectangle.left + INSIDE <= across <= min(rectangle.right, row.width) - INSIDE
@@ -70,8 +70,8 @@ def tip_faults(sight: Sight, pointed: Pointed, told: dict[str, Any]) -> Iterator
 
 
 def wanted(sight: Sight, boxes: list[int], is_exact: bool) -> tuple[str, list[str]]:
-    """How a tip and a status begin, and what they tell then: the weight, its part of the whole, and of one box, but for a caller, its own. A status
-    has the exact numbers."""
+    """How a tip and a status begin, and what they tell then: the weight, its part of the whole, and of one box, but for a caller, its
+    own. A status has the exact numbers."""
     drawing = sight.drawing
 
     def told(number: int) -> str:

@@ -95,8 +95,8 @@ def without_groups(text: str) -> str:
 
 
 class Parts(NamedTuple):
-    """A name without where it stands in a file: where each part begins, each without brackets, what stands between them, and which of them are
-    names of their own, unlike numbers."""
+    """A name without where it stands in a file: where each part begins, each without brackets, what stands between them, and which of
+    them are names of their own, unlike numbers."""
     head: str
     begins: list[int]
     bare: list[str]
@@ -127,9 +127,9 @@ def parts_of(name: str) -> Parts | None:
 
 @functools.lru_cache(maxsize=100_000)
 def forms(name: str) -> tuple[str, ...]:
-    """What is shown of a name, and of what a box with less room may have of it, from the longest to the shortest: without where it stands in a
-    file, without one after another part of its path until two are left, these without brackets, and so the last alone. All that by characters
-    alone. Of what is no name of its own, such as a number, nothing is left alone."""
+    """What is shown of a name, and of what a box with less room may have of it, from the longest to the shortest: without where it stands
+    in a file, without one after another part of its path until two are left, these without brackets, and so the last alone. All that by
+    characters alone. Of what is no name of its own, such as a number, nothing is left alone."""
     parts = parts_of(name)
     if parts is None:
         return (visible(name),)
@@ -139,7 +139,8 @@ def forms(name: str) -> tuple[str, ...]:
 
 
 def package(name: str) -> str:
-    """The package of a name: the file where it stands; else what stands before the last part that is a name of its own, from behind a space on."""
+    """The package of a name: the file where it stands; else what stands before the last part that is a name of its own, from behind a
+    space on."""
     parts = parts_of(name)
     if parts is None:
         return ''

@@ -1,5 +1,5 @@
-"""Tests of a page on a phone: what a tap does, where the line is that says so, and that tools stand still. And of what can be read on any screen:
-the contrast of letters, and that a weight is told once.
+"""Tests of a page on a phone: what a tap does, where the line is that says so, and that tools stand still. And of what can be read on any
+screen: the contrast of letters, and that a weight is told once.
 """
 import contextlib
 import json

@@ -1,5 +1,5 @@
-"""Tests of the page's pure functions: its modules are loaded in the browser, one by one, and compared with plain definitions in pure/*.js on random
-small inputs. Each of these tests is tried with a fault put into what it tests, and has to fail.
+"""Tests of the page's pure functions: its modules are loaded in the browser, one by one, and compared with plain definitions in pure/*.js
+on random small inputs. Each of these tests is tried with a fault put into what it tests, and has to fail.
 """
 import http.server
 import pathlib

@@ -1,5 +1,5 @@
-"""Random samples, what the program draws of them as an SVG and as a line of JSON, and what of its boxes differs between the two. checks/pictures
-reads an SVG as XML, and painted_svgs.py as a browser lays it out.
+"""Random samples, what the program draws of them as an SVG and as a line of JSON, and what of its boxes differs between the two.
+checks/pictures reads an SVG as XML, and painted_svgs.py as a browser lays it out.
 """
 from __future__ import annotations
 

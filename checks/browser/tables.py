@@ -1,4 +1,5 @@
-"""Tests of the table of functions: that it has what painted_table.py says of the data, in windows of any width, and that this finds what is wrong."""
+"""Tests of the table of functions: that it has what painted_table.py says of the data, in windows of any width, and that this finds what
+is wrong."""
 import json
 import random
 import shutil
