@@ -4,7 +4,6 @@ import os
 import pathlib
 import queue
 import subprocess
-import tempfile
 import threading
 from collections.abc import Callable
 from types import TracebackType
@@ -106,16 +105,37 @@ class Streams:
         return [sample for samples in self.given for sample in samples]
 
 
+def lines_of(output: int) -> queue.SimpleQueue[bytes]:
+    """The lines of what comes there, as they come, and nothing at the end."""
+    found: queue.SimpleQueue[bytes] = queue.SimpleQueue()
+
+    def read() -> None:
+        with open(output, 'rb') as lines:
+            for line in lines:
+                found.put(line)
+        found.put(b'')
+
+    threading.Thread(target=read, daemon=True).start()
+    return found
+
+
+def next_of(lines: queue.SimpleQueue[bytes], what: str) -> bytes:
+    try:
+        return lines.get(timeout=PATIENCE)
+    except queue.Empty:
+        raise Lost(f'no {what} came in {PATIENCE} seconds') from None
+
+
 class Run:
     """A run, whose lines are there as they come. Its output may go through another command."""
 
     def __init__(self, program: pathlib.Path, folder: pathlib.Path, words: list[str], source: int = subprocess.DEVNULL,
                  through: tuple[str, ...] = ()) -> None:
-        self.errors = tempfile.TemporaryFile()
         output, end = os.pipe()
-        self.process = subprocess.Popen([program, 'live', *words], cwd=folder, stdin=source, stdout=end, stderr=self.errors)
+        errors, error_end = os.pipe()
+        self.process = subprocess.Popen([program, 'live', *words], cwd=folder, stdin=source, stdout=end, stderr=error_end)
         self.started = [self.process]
-        given = [end] if source == subprocess.DEVNULL else [end, source]
+        given = [end, error_end] if source == subprocess.DEVNULL else [end, error_end, source]
         if through:
             given.append(output)
             output, end = os.pipe()
@@ -123,24 +143,22 @@ class Run:
             given.append(end)
         for each in given:
             os.close(each)
-        self.lines: queue.SimpleQueue[bytes] = queue.SimpleQueue()
-        threading.Thread(target=self.read, args=(output,), daemon=True).start()
-
-    def read(self, output: int) -> None:
-        with open(output, 'rb') as lines:
-            for line in lines:
-                self.lines.put(line)
-        self.lines.put(b'')
+        self.lines = lines_of(output)
+        self.messages = lines_of(errors)
+        self.said: list[str] = []
 
     def line(self) -> bytes:
         """The next line, or nothing at the end."""
-        try:
-            return self.lines.get(timeout=PATIENCE)
-        except queue.Empty:
-            raise Lost(f'no line came in {PATIENCE} seconds') from None
+        return next_of(self.lines, 'line')
 
     def rest(self) -> list[bytes]:
         return list(iter(self.line, b''))
+
+    def message(self) -> str:
+        """The next line of what it says, or nothing at the end."""
+        message = next_of(self.messages, 'message').decode(errors='replace')
+        self.said.append(message)
+        return message
 
     def is_over(self, seconds: float) -> bool:
         try:
@@ -150,11 +168,12 @@ class Run:
         return True
 
     def end(self) -> tuple[int, str]:
-        """Its status, and what it said."""
+        """Its status, and all that it said."""
         if not self.is_over(PATIENCE):
             raise Lost(f'it has not ended in {PATIENCE} seconds')
-        self.errors.seek(0)
-        return self.process.returncode, self.errors.read().decode(errors='replace')
+        while self.message():
+            pass
+        return self.process.returncode, ''.join(self.said)
 
     def __enter__(self) -> 'Run':
         return self
@@ -163,4 +182,3 @@ class Run:
         for process in self.started:
             process.kill()
             process.wait()
-        self.errors.close()

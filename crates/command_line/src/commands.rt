@@ -12,7 +12,7 @@ use clap::Command;
 use std::alloc::{AllocError, Global};
 
 // The number and the day of the newest heading in CHANGELOG.md, and what proved and built the program.
-const VERSION: &str = "0.4.2 (2026-11-30, rattle-kit-13f logic dac8208d650f15bf)";
+const VERSION: &str = "0.5.0 (2026-11-30, rattle-kit-13f logic dac8208d650f15bf)";
 
 const NOTES: &str = "\
 Formats:

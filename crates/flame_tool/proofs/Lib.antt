@@ -1,3 +1,5 @@
+mod DrawnRuns
+mod EachSaid
 mod ExitStatuses
 mod GrownFunctions
 mod KnownSources
@@ -9,12 +11,14 @@ mod LiveTexts
 pub mod PageLemmas
 mod PictureLemmas
 mod RenewedFiles
+mod ReportLemmas
 mod RunEndings
 mod SaidSources
 mod StepWords
 mod StrictEndings
 mod StrictSources
 mod ToldEndings
+mod ToldEnds
 mod TypeEndings
 mod UntouchedOutputs
 mod WorkedLive

@@ -14,14 +14,11 @@ use Rattle.ring_collect.specs.Collection.{FeedsRun}
 use Rattle.live_lines.specs.Lines.{live_counts}
 use Rattle.live_lines.specs.LiveState.{LiveState}
 use Rattle.live_lines.specs.declared.form.LiveForm.{LiveForm}
-use Rattle.flame_tool.specs.checked.LiveEnds.{anywhere, is_faulty, is_faulty_end, is_stopped, status_by, status_by_ends, status_of_ends}
+use Rattle.flame_tool.specs.ToldLive.{is_stopped}
+use Rattle.flame_tool.specs.checked.Drawings.{AreEndsOf}
+use Rattle.flame_tool.specs.checked.LiveEnds.{anywhere, is_faulty, is_faulty_end, status_by, status_by_ends, status_of_ends}
 use Rattle.flame_tool.specs.checked.LiveSaying.{end_of}
 use Rattle.flame_tool.proofs.StepWords.{list_any-map}
-
--- the endings of lists, and how many samples each has
-pub record AreEndsOf (endings : List SourceEnd) (counts : List ℕ) (lists : List ListState) : Type 0 where
-  pub endings_are : endings ≡ map (λ list. list.ending) lists
-  pub counts_are : counts ≡ map (λ list. length list.samples) lists
 
 zip_of_lists : (lists : List ListState) → zip (map (λ list. list.ending) lists) (map (λ list. length list.samples) lists) ≡ map end_of lists
 zip_of_lists [] = refl

@@ -32,11 +32,11 @@ use Rattle.live_lines.specs.Frames.{frames_text}
 use Rattle.live_lines.specs.Pages.{pages_text}
 use Rattle.live_lines.specs.declared.form.LiveForm.TheVariants.{Lines, Pages, Table}
 use Rattle.live_lines.specs.Lines.{end_of, live_lines, live_text}
-use Rattle.live_lines.specs.Settings.{form_number, known_numbers, live_setting}
+use Rattle.live_lines.specs.Settings.{counted_numbers, form_number, known_numbers, live_setting}
 use Rattle.live_lines.specs.Written.{GrewByFront, grown_by}
 use Rattle.live_lines.specs.declared.form.LiveForm.{LiveForm}
 use Rattle.live_lines.proofs.GraphLemmas.{text_is_graph_text}
-use Rattle.live_lines.proofs.SettingLemmas.{same_form}
+use Rattle.live_lines.proofs.SettingLemmas.{counted_same, same_form, same_known}
 use Rattle.flame_tool.specs.LiveRuns.{AreFirst, ShowsFirstOf, ShowsSomeOf, frames_of, lines_of, live_texts, pages_of}
 use Rattle.flame_tool.specs.checked.LiveEnds.{EndsLive, FailsLive, anywhere, form_of, status_of_ends}
 
@@ -196,8 +196,8 @@ front_of_text form sources width every taken old new grew = front_more (live_lin
 
 -- ---- what no sample changes
 
--- a sink writes to the same outlet, of which the same is known
-pub record SameSetting (name name' : ℕ) (contents contents' : Option (List ℕ)) (failures failures' : ℕ) (form form' : LiveForm) (sources sources' width width' every every' : ℕ) : Type 0 where
+-- a sink writes to the same outlet, of which the same is known, and what no end changes of its teller is the same
+pub record SameSetting (name name' : ℕ) (contents contents' : Option (List ℕ)) (failures failures' : ℕ) (form form' : LiveForm) (sources sources' width width' every every' : ℕ) (kept kept' : List ℕ) : Type 0 where
   pub name_is : name' ≡ name
   pub contents_are : contents' ≡ contents
   pub failures_are : failures' ≡ failures
@@ -205,29 +205,28 @@ pub record SameSetting (name name' : ℕ) (contents contents' : Option (List ℕ
   pub sources_are : sources' ≡ sources
   pub width_is : width' ≡ width
   pub every_is : every' ≡ every
+  pub kept_is : kept' ≡ kept
 
-same_known : (known other : Option (List ℕ)) → known_numbers known ≡ known_numbers other → known ≡ other
-same_known None None is = refl
-same_known None (Some other) is = absurd (cc)
-same_known (Some known) None is = absurd (cc)
-same_known (Some known) (Some other) is = let same : known ≡ other = cc in ap (λ bytes. Some bytes) same
-
-pub same_setting : (name name' : ℕ) (contents contents' : Option (List ℕ)) (failures failures' : ℕ) (form form' : LiveForm) (sources sources' width width' every every' : ℕ)
-    → live_setting name' contents' failures' form' sources' width' every' ≡ live_setting name contents failures form sources width every
-    → SameSetting name name' contents contents' failures failures' form form' sources sources' width width' every every'
-same_setting name name' contents contents' failures failures' form form' sources sources' width width' every every' is = record {
-  name_is = cc;
-  contents_are = let same : known_numbers contents' ≡ known_numbers contents = cc in same_known contents' contents same;
-  failures_are = cc;
-  form_is = let same : form_number form' ≡ form_number form = cc in same_form form' form same;
-  sources_are = cc;
-  width_is = cc;
-  every_is = cc;
-}
+pub same_setting : (name name' : ℕ) (contents contents' : Option (List ℕ)) (failures failures' : ℕ) (form form' : LiveForm) (sources sources' width width' every every' : ℕ) (kept kept' : List ℕ)
+    → live_setting name' contents' failures' form' sources' width' every' kept' ≡ live_setting name contents failures form sources width every kept
+    → SameSetting name name' contents contents' failures failures' form form' sources sources' width width' every every' kept kept'
+same_setting name name' contents contents' failures failures' form form' sources sources' width width' every every' kept kept' is =
+    let rest : counted_numbers (known_numbers contents') ++ kept' ≡ counted_numbers (known_numbers contents) ++ kept = cc in
+    let both = counted_same (known_numbers contents') (known_numbers contents) kept' kept rest in
+    record {
+      name_is = cc;
+      contents_are = same_known contents' contents both.0;
+      failures_are = cc;
+      form_is = let same : form_number form' ≡ form_number form = cc in same_form form' form same;
+      sources_are = cc;
+      width_is = cc;
+      every_is = cc;
+      kept_is = both.1;
+    }
 
 -- so what it wrote is a front of the lines as they were asked for
-pub front_of_sink : {name name' : ℕ} {contents contents' : Option (List ℕ)} {failures failures' : ℕ} {form form' : LiveForm} {sources sources' width width' every every' : ℕ} (taken : List (ℕ × Sample)) (out : Option (List ℕ))
-    → SameSetting name name' contents contents' failures failures' form form' sources sources' width width' every every'
+pub front_of_sink : {name name' : ℕ} {contents contents' : Option (List ℕ)} {failures failures' : ℕ} {form form' : LiveForm} {sources sources' width width' every every' : ℕ} {kept kept' : List ℕ} (taken : List (ℕ × Sample)) (out : Option (List ℕ))
+    → SameSetting name name' contents contents' failures failures' form form' sources sources' width width' every every' kept kept'
     → GrewByFront (live_lines form' sources' width' every' taken) contents' out → AppendsFront (live_lines form sources width every taken) contents out
 front_of_sink {contents = contents} {contents' = contents'} {form = form} {form' = form'} {sources = sources} {sources' = sources'} {width = width} {width' = width'} {every = every} {every' = every'} taken out same grew =
     subst (λ f. AppendsFront (live_lines f sources width every taken) contents out) same.form_is
@@ -237,14 +236,20 @@ front_of_sink {contents = contents} {contents' = contents'} {form = form} {form'
     (subst (λ known. AppendsFront (live_lines form' sources' width' every' taken) known out) same.contents_are (grown_by contents' out, grew)))))
 
 -- and its text is what is promised of what was collected
-pub text_of_run : {name name' : ℕ} {contents contents' : Option (List ℕ)} {failures failures' : ℕ} {form form' : LiveForm} {sources sources' width width' every every' : ℕ} (plan : Plan) (is_terminal : Bool) → plan.view ≡ Graph width → plan.options.every ≡ Some every
+pub text_of_run : {name name' : ℕ} {contents contents' : Option (List ℕ)} {failures failures' : ℕ} {form form' : LiveForm} {sources sources' width width' every every' : ℕ} {kept kept' : List ℕ} (plan : Plan) (is_terminal : Bool) → plan.view ≡ Graph width → plan.options.every ≡ Some every
     → form ≡ form_of is_terminal plan every → (rests : List Rest) (taken : List (ℕ × Sample)) (lists : List ListState) (order : List ℕ)
-    → SameSetting name name' contents contents' failures failures' form form' sources sources' width width' every every' → sources ≡ length rests → CollectsRun anywhere anywhere rests [] taken lists order
+    → SameSetting name name' contents contents' failures failures' form form' sources sources' width width' every every' kept kept' → sources ≡ length rests → CollectsRun anywhere anywhere rests [] taken lists order
     → live_text form' sources' width' every' taken ≡ live_texts is_terminal plan (samples_of lists) order
 text_of_run {form' = form'} {sources = sources} {sources' = sources'} {width = width} {width' = width'} {every = every} {every' = every'} plan is_terminal graph often formed rests taken lists order same count run =
     ap (live_text form' sources' width' every') run.sink
     ∙ (λ i. live_text ((same.form_is ∙ formed) i) (same.sources_are i) (same.width_is i) (same.every_is i) (interleaved order (samples_of lists)))
     ∙ text_is plan width every graph often is_terminal (samples_of lists) order sources run.order (length-map lists (λ list. list.samples) ∙ run.lists.count ∙ sym count)
+
+pub drawn_text : (plan : Plan) (width every : ℕ) (is_terminal : Bool) → plan.view ≡ Graph width → plan.options.every ≡ Some every → (form : LiveForm) → form ≡ form_of is_terminal plan every
+    → (rests : List Rest) (taken : List (ℕ × Sample)) (lists : List ListState) (order : List ℕ) → CollectsRun anywhere anywhere rests [] taken lists order → live_text form (length rests) width every taken ≡ live_texts is_terminal plan (samples_of lists) order
+drawn_text plan width every is_terminal graph often form formed rests taken lists order run =
+    (λ i. live_text (formed i) (length rests) width every (run.sink i))
+    ∙ text_is plan width every graph often is_terminal (samples_of lists) order (length rests) run.order (length-map lists (λ list. list.samples) ∙ run.lists.count)
 
 -- ---- results
 

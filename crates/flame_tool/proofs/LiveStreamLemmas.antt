@@ -3,7 +3,7 @@ use Rattle.std.proofs.Common.{◌≡◌, ◌||◌, ◌+◌, ◌<◌, ◌≤◌, 
 use Rattle.std.specs.Prelude.{◌↔◌, IsNone, IsSomeAnd, slice_get}
 use Rattle.std.specs.List.{AllZip, list_any}
 use Rattle.std.proofs.lemmas.Bool.{true≢false}
-use Rattle.std.proofs.lemmas.List.{map-append, take-map, take_more, take_all}
+use Rattle.std.proofs.lemmas.List.{length-map, map-append, take-map, take_more, take_all}
 use Rattle.std.proofs.lemmas.Option.{get_or_from_slice_get}
 use Rattle.std.proofs.lemmas.Slice.Zip.{all_zipped_more}
 use Rattle.stack_core.specs.Reading.{Rest}
@@ -17,7 +17,7 @@ use Rattle.ring_collect.proofs.RunLemmas.{at_index}
 use Rattle.source_views.specs.Failures.{IsOfLoad, failure_of_load}
 use Rattle.source_views.specs.declared.failures.Failure.{Failure}
 use Rattle.source_views.specs.declared.failures.Failure.TheVariants.{Unreadable}
-use Rattle.flame_tool.specs.ToldLive.{IsMissing}
+use Rattle.flame_tool.specs.ToldLive.{IsMissing, stream_count}
 use Rattle.flame_tool.specs.checked.LiveStreams.{AreOpened, GivesStream, IsOfFile, ReadsAs, ReadsText}
 use Rattle.flame_tool.proofs.KnownSources.{neither}
 
@@ -108,3 +108,12 @@ missing_file absent known bytes paths at path failure below same none loaded unk
     )
     by load.TooLarge same = subst (IsMissing absent known (map bytes paths)) (sym same) tt
     by load.OutOfMemory same = subst (IsMissing absent known (map bytes paths)) (sym same) tt
+
+-- how many streams there are
+pub some_streams : {A : Type 0} (bytes : A → List ℕ) (paths : List A) → 0 < length paths → stream_count (map bytes paths) ≡ length paths
+some_streams bytes [] some = absurd (omega (arith, some))
+some_streams bytes (path ∷ paths) some = length-map (path ∷ paths) bytes
+
+pub one_stream : {A : Type 0} (bytes : A → List ℕ) (paths : List A) → length paths ≡ 0 → stream_count (map bytes paths) ≡ 1
+one_stream bytes [] none = refl
+one_stream bytes (path ∷ paths) none = absurd (omega (arith, none))

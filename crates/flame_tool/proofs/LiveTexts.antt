@@ -28,7 +28,8 @@ use Rattle.source_views.specs.declared.failures.Failure.TheVariants.{TooManyFile
 use Rattle.flame_tool.specs.LiveRuns.{AreFaultless, AreFirst, HasTextFault, ShowsAllOf, ShowsFirstOf, ShowsSomeOf, has_strict_text, known_texts, live_texts, read_text, read_texts}
 use Rattle.source_lists.specs.Sources.{all_found}
 use Rattle.flame_tool.specs.Runs.{HasFault, IsClean, lists_of}
-use Rattle.flame_tool.specs.checked.LiveEnds.{EndsLive, FailsLive, TellsTexts, anywhere, is_faulty, is_stopped, live_status, status_by, strict_list_fault}
+use Rattle.flame_tool.specs.ToldLive.{is_stopped}
+use Rattle.flame_tool.specs.checked.LiveEnds.{EndsLive, FailsLive, TellsTexts, anywhere, is_faulty, live_status, status_by, strict_list_fault}
 use Rattle.flame_tool.specs.checked.LiveSaying.{IsTellableList}
 use Rattle.flame_tool.specs.checked.LiveStreams.{AreOpened, IsOfFile, IsOfInput, ReadsAs, ReadsText}
 use Rattle.flame_tool.proofs.KnownSources.{clean_ending, faults_of_rests, faulty_rests, neither, samples_of_rests}

@@ -2,6 +2,7 @@
 use Rattle.std.proofs.Common.{◌≡◌, ℕ, List, [], ◌∷◌, codes, refl, Option, Some, option_map, true, false}
 use Rattle.std.specs.Prelude.{◌==◌, Bool}
 use Rattle.std.specs.Fmt.{digits}
+use Rattle.std.specs.List.{flat_map}
 use Rattle.clap.proofs.OnLiterals.{clap_on_literals}
 use Rattle.clap.specs.Walk.{Text}
 use Rattle.folded_lines.proofs.Computing.{computing}
@@ -9,42 +10,49 @@ use Rattle.byte_io.specs.declared.piece_output.PieceFault.TheVariants as piece
 use Rattle.command_line.specs.Plans.{plan_of}
 use Rattle.source_views.specs.Messages.{message_of_failure}
 use Rattle.source_views.specs.declared.failures.Failure.TheVariants.{Output}
-use Rattle.flame_tool.specs.ToldLive.{said_of_streams, said_of_texts}
+use Rattle.flame_tool.specs.ToldLive.{message_of_stream, message_of_text, said_at}
 
--- what words ask to be said of texts that are read to their ends
-abbrev said_by : List Text → List Text → Option Text
-said_by words texts = option_map (λ plan. said_of_texts plan texts) (plan_of words)
+-- what words ask to be said of texts that are read to their ends, in this order
+abbrev said_by : List ℕ → List Text → List Text → Option Text
+said_by order words texts = option_map (λ plan. flat_map (said_at (message_of_text plan) texts) order) (plan_of words)
 
 -- and of texts of which the one at this place is not, where the output failed at the end or before
-abbrev said_cut : List Text → Bool → ℕ → List Text → Option Text
-said_cut words is_lost cut texts = option_map (λ plan. said_of_streams plan is_lost (λ at. at == cut) texts) (plan_of words)
+abbrev said_cut : List ℕ → List Text → Bool → ℕ → List Text → Option Text
+said_cut order words is_lost cut texts =
+    option_map (λ plan. flat_map (said_at (message_of_stream plan (λ at. is_lost) (λ at. at == cut)) texts) order) (plan_of words)
 
-ignored_and_faulty : said_by (codes "live" ∷ codes "x" ∷ codes "y" ∷ []) (codes "a 1\nb\n" ∷ codes "a 1\nb 1.5\n" ∷ [])
+ignored_and_faulty : said_by (0 ∷ 1 ∷ []) (codes "live" ∷ codes "x" ∷ codes "y" ∷ []) (codes "a 1\nb\n" ∷ codes "a 1\nb 1.5\n" ∷ [])
     ≡ Some (codes "flamecollect: x: ignored 1\nflamecollect: y: DecimalWeight at 2\n")
 unfolding clap_on_literals computing digits
 ignored_and_faulty = refl
 
-nothing_to_say : said_by (codes "live" ∷ []) (codes "a 1\n" ∷ []) ≡ Some []
+-- the second ended first
+faulty_and_ignored : said_by (1 ∷ 0 ∷ []) (codes "live" ∷ codes "x" ∷ codes "y" ∷ []) (codes "a 1\nb\n" ∷ codes "a 1\nb 1.5\n" ∷ [])
+    ≡ Some (codes "flamecollect: y: DecimalWeight at 2\nflamecollect: x: ignored 1\n")
+unfolding clap_on_literals computing digits
+faulty_and_ignored = refl
+
+nothing_to_say : said_by (0 ∷ []) (codes "live" ∷ []) (codes "a 1\n" ∷ []) ≡ Some []
 unfolding clap_on_literals computing digits
 nothing_to_say = refl
 
-strictly : said_by (codes "live" ∷ codes "--strict" ∷ codes "x" ∷ codes "y" ∷ codes "z" ∷ []) (codes "a 1\nb\n" ∷ codes "a 1\n" ∷ [] ∷ [])
+strictly : said_by (0 ∷ 1 ∷ 2 ∷ []) (codes "live" ∷ codes "--strict" ∷ codes "x" ∷ codes "y" ∷ codes "z" ∷ []) (codes "a 1\nb\n" ∷ codes "a 1\n" ∷ [] ∷ [])
     ≡ Some (codes "flamecollect: x: NoCount at 2\nflamecollect: z: NoSamples at 0\n")
 unfolding clap_on_literals computing digits
 strictly = refl
 
-the_input : said_by (codes "live" ∷ []) (codes "b\n" ∷ []) ≡ Some (codes "flamecollect: -: ignored 1\n")
+the_input : said_by (0 ∷ []) (codes "live" ∷ []) (codes "b\n" ∷ []) ≡ Some (codes "flamecollect: -: ignored 1\n")
 unfolding clap_on_literals computing digits
 the_input = refl
 
 -- one that can't be read tells that in its place
-unread : said_cut (codes "live" ∷ codes "x" ∷ codes "y" ∷ []) false 0 (codes "b\n" ∷ codes "b\n" ∷ [])
+unread : said_cut (0 ∷ 1 ∷ []) (codes "live" ∷ codes "x" ∷ codes "y" ∷ []) false 0 (codes "b\n" ∷ codes "b\n" ∷ [])
     ≡ Some (codes "flamecollect: x: cannot be read\nflamecollect: y: ignored 1\n")
 unfolding clap_on_literals computing digits
 unread = refl
 
 -- and one that a failed output stopped nothing
-lost : said_cut (codes "live" ∷ codes "x" ∷ codes "y" ∷ []) true 0 (codes "b\n" ∷ codes "b\n" ∷ []) ≡ Some (codes "flamecollect: y: ignored 1\n")
+lost : said_cut (0 ∷ 1 ∷ []) (codes "live" ∷ codes "x" ∷ codes "y" ∷ []) true 0 (codes "b\n" ∷ codes "b\n" ∷ []) ≡ Some (codes "flamecollect: y: ignored 1\n")
 unfolding clap_on_literals computing digits
 lost = refl
 

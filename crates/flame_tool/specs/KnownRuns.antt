@@ -213,14 +213,14 @@ pub record LiveShows (is_terminal : Bool) (plan : Plan) (streams : KnownStreams)
   -- where a file is known to be absent, nothing is written
   pub absent : list_any streams.is_absent plan.files ≡ true →
       FailsUntouched answer out.held_before out.held_after out.failed_before out.failed_after
-  -- where the input is no terminal: at 0 and 1 `err` gained exactly what there is to say of each stream, in order, its fault or its ignored
-  -- lines; or a call of it failed. At 2 that there are too many files, wherever the input comes from
+  -- where the input is no terminal: at 0 and 1 `err` gained exactly what there is to say of each stream, its fault or its ignored lines, each
+  -- once, one behind another in some order; or a call of it failed. At 2 that there are too many files, wherever the input comes from
   pub told : answer ≤ 1 → streams.may_have_terminal ≡ false → IfSome (known_texts plan.files streams.input streams.named)
       (TellsStreams plan err.held_before err.held_after err.failed_before err.failed_after)
   pub told_many : answer ≡ 2 → Tells (message_of_failure plan.files TooManyFiles)
       err.held_before err.held_after err.failed_before err.failed_after
-  -- at 3 exactly why: alone where a stream can't be opened or not all was collected, and else where a stream can't be read to its end in the
-  -- place of what there is to say of it, or that the output failed behind what there is to say of all streams
+  -- at 3 exactly why: alone where a stream can't be opened, behind how some streams ended where not all was collected, and else where a
+  -- stream can't be read to its end in the place of what there is to say of it, or that the output failed behind what there is to say of all
   pub told_failure : answer ≡ 3 → streams.may_have_terminal ≡ false → TellsLiveFailure plan (known_texts plan.files streams.input streams.named)
       err.held_before err.held_after err.failed_before err.failed_after
   pub told_absent : list_any streams.is_absent plan.files ≡ true → TellsSuch (IsOfFailure (IsUnopened streams.is_absent streams.named plan.files) plan.files)

@@ -4,6 +4,7 @@
 
 mod advice;
 mod delivery;
+mod end_reports;
 mod exits;
 mod headings;
 mod hosts;

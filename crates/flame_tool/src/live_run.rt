@@ -7,10 +7,10 @@ ghost use Rattle.source_views.specs.Messages.{Tells};
 ghost use Rattle.flame_tool.specs.KnownRuns.{LiveShows, as_streams, change};
 ghost use Rattle.flame_tool.specs.LiveRuns.{known_texts};
 ghost use Rattle.flame_tool.specs.Runs.{FailsUntouched};
-ghost use Rattle.flame_tool.specs.ToldLive.{IsUnopened};
+ghost use Rattle.flame_tool.specs.ToldLive.{IsOfSome, IsUnopened, stream_count};
 ghost use Rattle.flame_tool.specs.checked.LiveEnds.{TellsTexts, live_status};
 ghost use Rattle.flame_tool.specs.checked.LivePlans.{IsLivePlan};
-ghost use Rattle.flame_tool.specs.checked.LiveSaying.{SaidFirst, SaidOfEnds, SaidOfLost};
+ghost use Rattle.flame_tool.specs.checked.LiveSaying.{SaidFirst, SaidOfEnds, SaidOfLost, SaysSuch};
 
 use crate::hosts::Host;
 use crate::live_graphs::send_graphs;
@@ -28,7 +28,8 @@ use std::thread::Threads;
 /// of each snapshot of their graph is written and flushed as soon as its last sample came, and at the end the line of the graph. On a
 /// terminal a table of the functions with the greatest weights is written in their place: in a frame of each snapshot, which takes the
 /// place of the frame before, and at the end alone. Where the plan has a file for them, pages are, one for each snapshot, and then that of
-/// the graph. Then `err` is told of each source its fault, how many lines were ignored, or that it could not be read to its end.
+/// the graph. `err` is told of each source its fault, how many lines were ignored, or that it could not be read to its end: as soon as it
+/// has ended, but behind the last table where one is renewed.
 ///
 /// 0 says that all of each source was read. 1 says that a source has a fault, which is where the plan is strict an ignored line,
 /// or that it has no sample, too: its samples before are shown, and the others to their ends. 2 are more than 64 files. 3 says
@@ -114,10 +115,13 @@ fn show_live<
         (S.known_file streams.old)) (SaidOfEnds plan.now (λ said. Tells said
         (E.contents err.old) (E.contents err.new) (E.failures err.old) (E.failures err.new)) status)) }
     ensures says_first { IfErr result (SaidFirst (err.new ≡ err.old)
+        (SaysSuch (IsOfSome plan.now (stream_count plan.now.files)) (λ said. Tells said
+        (E.contents err.old) (E.contents err.new) (E.failures err.old) (E.failures err.new)))
         (IfSome (known_texts plan.now.files (S.known_input streams.old) (S.known_file streams.old))
         (SaidOfLost plan.now (λ said. Tells said
         (E.contents err.old) (E.contents err.new) (E.failures err.old) (E.failures err.new))))) }
     ensures ended { IfOk result (λ status. status ≢ 2) }
+    ensures untold { list_any (S.is_absent streams.old) plan.now.files ≡ true → err.new ≡ err.old }
     ensures unopened { list_any (S.is_absent streams.old) plan.now.files ≡ true
         → IsErrAnd result (IsUnopened (S.is_absent streams.old) (S.known_file streams.old) plan.now.files) }
 {

@@ -4,7 +4,7 @@ ghost use Rattle.std.specs.List.{list_any};
 ghost use Rattle.source_views.specs.Failures.{IsOfLoad, IsOpening};
 ghost use Rattle.stack_core.specs.Reading.{Rest};
 ghost use Rattle.stack_core.specs.RowReading.{GivesSome};
-ghost use Rattle.flame_tool.specs.ToldLive.{IsMissing};
+ghost use Rattle.flame_tool.specs.ToldLive.{IsMissing, stream_count};
 ghost use Rattle.flame_tool.specs.checked.LiveStreams.{AreOpened, GivesStream, ReadsText};
 
 use byte_io::{Inlet, Streams};
@@ -43,6 +43,8 @@ pub(crate) fn open_streams<S: Streams, R: StreamReader<S::Inlet> + Drop>(
     is_strict: bool,
 ) -> Result<Vec<R>, Failure>
     ensures few { IfOk result (λ readers. length readers.items ≤ 64) }
+    ensures count { IfOk result (λ readers.
+        length readers.items ≡ stream_count (map string_bytes paths.now)) }
     ensures nothing_told { IfOk result (λ readers. All (λ reader.
         R.told reader ≡ record { names = []; stacks = [] })
         readers.items) }

@@ -1,3 +1,4 @@
+mod EndLemmas
 mod FrameLemmas
 pub mod GraphLemmas
 mod LineLemmas

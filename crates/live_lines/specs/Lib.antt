@@ -1,4 +1,5 @@
 -- The definitions that the contracts of live_lines cite.
+pub mod Ends
 pub mod Frames
 pub mod Lines
 pub mod LiveState

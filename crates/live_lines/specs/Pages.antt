@@ -1,5 +1,5 @@
 -- The pages of samples while they come: one for each snapshot, and at the end that of all.
-use Rattle.std.specs.Prelude.{ℕ, Bool, true, false, List, ◌++◌, Some, length}
+use Rattle.std.specs.Prelude.{ℕ, true, false, List, ◌++◌, Some, length}
 use Rattle.std.specs.List.{flat_map}
 use Rattle.sample_tables.specs.declared.samples.Sample.{Sample}
 use Rattle.page_texts.specs.Document.{document_text}

@@ -1,6 +1,7 @@
 //! The lines of a graph while its samples come: a sink that writes each snapshot's line as soon as its last sample was taken.
 #![tactic(auto)]
 
+mod ends;
 mod form;
 mod frames;
 mod gate;
@@ -10,6 +11,7 @@ mod moments;
 mod sink;
 mod terminal;
 
+pub use ends::{EndTeller, ToldEnds};
 pub use form::LiveForm;
 pub use gate::LiveGate;
 pub use merge::{LiveLine, LiveMerge};

@@ -1,6 +1,6 @@
 //! A sink that writes a line each time that so many samples more came, or a frame of a table in its place.
 
-ghost use Rattle.std.specs.Prelude.{◌≡◌, ◌≢◌, ◌≤◌, ◌<◌, ◌++◌, ◌∷◌, ◌&&◌, ℕ, List, [], OnOk, OnErr, IsErrOf, None, is_none, length};
+ghost use Rattle.std.specs.Prelude.{◌≡◌, ◌≢◌, ◌≤◌, ◌<◌, ◌++◌, ◌∷◌, ◌&&◌, false, ℕ, List, [], OnOk, OnErr, IsErrOf, None, is_none, length};
 ghost use Rattle.std.specs.Io.KnownBytes.{Appends};
 ghost use Rattle.byte_io.specs.Calls.{one_more};
 ghost use Rattle.byte_io.specs.Pieces.{AppendsFront};
@@ -9,6 +9,7 @@ ghost use Rattle.sample_tables.specs.declared.samples.Sample.{Sample as TakenSam
 ghost use Rattle.stack_core.specs.Interleaving.{IsInterleaving, interleaved};
 ghost use Rattle.merging.specs.checked.Merging.{is_due};
 ghost use Rattle.source_views.specs.Texts.{graph_text};
+ghost use Rattle.live_lines.specs.Ends.{has_lost, heard_of_each};
 ghost use Rattle.live_lines.specs.Lines.{live_lines, live_text, moment_at};
 ghost use Rattle.live_lines.specs.Settings.{form_number, live_setting};
 ghost use Rattle.live_lines.specs.Written.{GrewByFront, GrewByText, failures_after};
@@ -16,11 +17,13 @@ ghost use Rattle.live_lines.specs.checked.Writes.{AreWritten};
 ghost use Rattle.live_lines.specs.checked.WrittenProps.{front_prop, text_prop};
 ghost use Rattle.live_lines.specs.declared.form.LiveForm.TheVariants.{Lines};
 
+use crate::ends::EndTeller;
 use crate::gate::LiveGate;
 use crate::merge::{LiveLine, LiveMerge};
 use byte_io::{Outlet, PieceFault};
 use flame_layout::Width;
-use stack_core::{Ledger, RowSink};
+use ring_collect::EndSink;
+use stack_core::{Ledger, RowSink, SourceEnd};
 use std::alloc::{AllocError, Global};
 use std::snapshot::Snapshot;
 use std::sync::Arc;
@@ -40,11 +43,12 @@ pub struct LiveLines<W> {
 }
 
 /// Writes the lines of the snapshots of a graph while samples come, each as soon as its last sample was taken, and flushes each. Where a
-/// line is not sent whole it closes its gate, and writes nothing more.
+/// line is not sent whole it closes its gate, and writes nothing more. It tells how sources end at once.
 #[derive(Drop)]
-pub struct LiveSink<'a, W: Outlet> {
+pub struct LiveSink<'a, W: Outlet, T: EndTeller> {
     pub lines: LiveLines<W>,
     pub out: &'a mut W,
+    pub ends: T,
 
     // The lines that are due were written, in order and each once; after a failure a front of them.
     pub ghost whole: { GrewByText lines.failure
@@ -59,9 +63,12 @@ pub struct LiveSink<'a, W: Outlet> {
     // And they were handed on, each time.
     pub ghost flushed: { lines.failure ≡ None → lines.every ≤ length lines.merge.taken
         → ∥ W.is_flushed out.now ∥₁ },
+
+    // As long as no line failed, no end was told as one behind a failure.
+    pub ghost unlost: { lines.failure ≡ None → has_lost (T.told ends) ≡ false },
 }
 
-impl<'a, W: Outlet> LiveSink<'a, W> {
+impl<'a, W: Outlet, T: EndTeller> LiveSink<'a, W, T> {
     /// Nothing came yet, and nothing is written. There is a line each time that `every` samples more came.
     pub fn new(
         merge: LiveMerge,
@@ -69,15 +76,18 @@ impl<'a, W: Outlet> LiveSink<'a, W> {
         width: Width,
         gate: Arc<LiveGate>,
         out: &'a mut W,
-    ) -> LiveSink<'a, W>
+        ends: T,
+    ) -> LiveSink<'a, W, T>
         requires every { 1 ≤ every }
         requires nothing { merge.taken ≡ [] }
+        requires untold { T.told ends ≡ [] }
         ensures merge { result.lines.merge ≡ merge }
         ensures every { result.lines.every ≡ every }
         ensures width { result.lines.width ≡ width }
         ensures unfailed { result.lines.failure ≡ None }
         ensures start { result.lines.start.value ≡ out.entry.now }
         ensures outlet { result.out.ghost_name ≡ out.entry.ghost_name }
+        ensures ends { result.ends ≡ ends }
     {
         let start = Snapshot::of(out);
         let lines = LiveLines {
@@ -88,7 +98,7 @@ impl<'a, W: Outlet> LiveSink<'a, W> {
             start,
             gate,
         };
-        LiveSink { lines, out }
+        LiveSink { lines, out, ends }
     }
 
     /// Why a line was not sent whole, if one was not.
@@ -119,6 +129,7 @@ impl<W: Outlet> LiveLines<W> {
         ensures ok { OnOk result (Appends (W.contents self.old.start.value) (W.contents out.new)
             (live_text self.old.merge.form self.old.merge.sources self.old.width self.old.every self.old.merge.taken)) }
         ensures flushed { OnOk result (W.is_flushed out.new) }
+        ensures unlost { OnOk result (self.old.failure ≡ None) }
         ensures front { OnErr result (AppendsFront
             (live_text self.old.merge.form self.old.merge.sources self.old.width self.old.every self.old.merge.taken)
             (W.contents self.old.start.value) (W.contents out.new)) }
@@ -140,12 +151,16 @@ impl<W: Outlet> LiveLines<W> {
     }
 }
 
-impl<W: Outlet> RowSink for LiveSink<'_, W> {
+impl<W: Outlet, T: EndTeller> EndSink for LiveSink<'_, W, T> {
     ghost taken = { λ sink. sink.lines.merge.taken };
 
     ghost setting = { λ sink. live_setting sink.out.ghost_name (W.contents sink.lines.start.value)
         (W.failures sink.lines.start.value) sink.lines.merge.form sink.lines.merge.sources
-        sink.lines.width sink.lines.every };
+        sink.lines.width sink.lines.every (T.setting sink.ends) };
+
+    ghost sources = { λ sink. sink.lines.merge.sources };
+
+    ghost heard = { λ sink. heard_of_each (T.told sink.ends) };
 
     /// Merges one sample, and sends the line that is due then. A failure of the line is kept, since the sample was taken.
     fn take_row(
@@ -165,6 +180,16 @@ impl<W: Outlet> RowSink for LiveSink<'_, W> {
             weight,
             self.out,
         )
+    }
+
+    /// Tells at once how a source ended, with how many of its samples were taken.
+    fn end_source(&mut self, source: u32, ending: &SourceEnd) {
+        let counts = self.lines.merge.counts();
+        let Some(count) = counts.get(source as usize) else {
+            return;
+        };
+        let is_lost = self.lines.failure.is_some();
+        self.ends.tell(source, ending, *count, is_lost);
     }
 }
 
@@ -200,6 +225,7 @@ fn take_sample<W: Outlet>(
     ensures width { lines.new.width ≡ lines.old.width }
     ensures every { lines.new.every ≡ lines.old.every }
     ensures start { lines.new.start.value ≡ lines.old.start.value }
+    ensures kept { lines.new.failure ≡ None → lines.old.failure ≡ None }
     ensures written { AreWritten
         (live_lines lines.new.merge.form lines.new.merge.sources lines.new.width lines.new.every
         lines.new.merge.taken)

@@ -1,12 +1,11 @@
 -- How a live run of readers ended, by the rests that these may give.
-use Rattle.std.specs.Prelude.{◌≡◌, ◌⊎◌, ℕ, Bool, true, false, List, Option, Result, Ok, Err, if◌then◌else◌, is_some, length}
+use Rattle.std.specs.Prelude.{◌≡◌, ◌⊎◌, ℕ, Bool, List, Option, Result, Ok, Err, if◌then◌else◌, is_some, length}
 use Rattle.std.specs.List.{list_any, zip}
 use Rattle.std.specs.Io.KnownBytes.{Appends}
 use Rattle.stack_core.specs.Interleaving.{IsInterleaving}
 use Rattle.stack_core.specs.Ledgers.{ListState}
 use Rattle.stack_core.specs.Reading.{Rest}
 use Rattle.stack_core.specs.declared.endings.SourceEnd.{SourceEnd}
-use Rattle.stack_core.specs.declared.endings.SourceEnd.TheVariants as ends
 use Rattle.folded_lines.specs.StrictStreams.{strict_ending_fault}
 use Rattle.folded_lines.specs.declared.strictness.StrictFault.{StrictFault}
 use Rattle.merged_stacks.specs.Timeline.{samples_of}
@@ -18,12 +17,7 @@ use Rattle.source_views.specs.declared.failures.Failure.TheVariants.{TooManyFile
 use Rattle.live_lines.specs.declared.form.LiveForm.{LiveForm}
 use Rattle.live_lines.specs.declared.form.LiveForm.TheVariants.{Lines, Pages, Table}
 use Rattle.flame_tool.specs.LiveRuns.{AreFaultless, HasTextFault, ShowsAllOf, ShowsFirstOf, ShowsSomeOf, live_texts, read_texts}
-
--- the source was stopped, or a read of it failed
-abbrev pub is_stopped : SourceEnd → Bool
-is_stopped (ends.Clean ignored) = false
-is_stopped (ends.Fault fault) = false
-is_stopped (ends.Stopped after) = true
+use Rattle.flame_tool.specs.ToldLive.{is_stopped}
 
 -- the exit status of a run that went to its end, where a source is stopped, and where one has a fault
 abbrev pub status_by : Bool → Bool → ℕ

@@ -5,7 +5,7 @@ use Rattle.std.proofs.Props.{props}
 use Rattle.byte_io.specs.declared.piece_output.PieceFault.{PieceFault}
 use Rattle.live_lines.specs.Written.{GrewByFront, GrewByText}
 
-Appends_prop : (old new : Option (List ℕ)) (bytes : List ℕ) → IsProp (Appends old new bytes)
+pub Appends_prop : (old new : Option (List ℕ)) (bytes : List ℕ) → IsProp (Appends old new bytes)
 Appends_prop None new bytes = Prim.hlevel props
 Appends_prop (Some xs) None bytes = Prim.hlevel props
 Appends_prop (Some xs) (Some ys) bytes = Prim.hlevel props

@@ -6,8 +6,8 @@ use super::shown::{Given, see};
 use crate::tests::worked::{FIVE_LINES, SNAPSHOT_LINES};
 use flame_layout::Width;
 use flame_tool::{CountedWriter, Format, Outlet, View, Views, render};
-use live_lines::{LiveForm, LiveGate, LiveLine, LiveMerge, LiveSink};
-use ring_collect::CollectFault;
+use live_lines::{LiveForm, LiveGate, LiveLine, LiveMerge, LiveSink, ToldEnds};
+use ring_collect::{CollectFault, EndSink};
 use stack_core::{Ledger, RowSink, SourceList};
 use std::alloc::{AllocError, Global};
 use std::sync::Arc;
@@ -39,7 +39,7 @@ fn ledgers_of(alloc: Global, lists: &[SourceList]) -> Result<Vec<Ledger>, AllocE
 /// Hands the sink a sample of a list.
 fn feed_one<W: Outlet>(
     alloc: Global,
-    sink: &mut LiveSink<'_, W>,
+    sink: &mut LiveSink<'_, W, ToldEnds>,
     source: u32,
     list: &SourceList,
     ledger: &Ledger,
@@ -59,7 +59,7 @@ fn feed_one<W: Outlet>(
 fn feed<W: Outlet>(
     alloc: Global,
     views: &Views,
-    sink: &mut LiveSink<'_, W>,
+    sink: &mut LiveSink<'_, W, ToldEnds>,
 ) -> Result<(), AllocError> {
     let ledgers = ledgers_of(alloc, views.lists())?;
     for (place, source) in views.order().iter().enumerate() {
@@ -84,11 +84,12 @@ fn written(alloc: Global, views: &Views, every: u64) -> Result<Vec<u8>, AllocErr
     let merge = LiveMerge::new(alloc, views.lists().len())?;
     let gate = open_gate(alloc)?;
     let mut out = CountedWriter::new(Vec::new(alloc));
-    let mut sink = LiveSink::new(merge, every, width, gate, &mut out);
+    let mut sink = LiveSink::new(merge, every, width, gate, &mut out, ToldEnds::new());
     feed(alloc, views, &mut sink)?;
     let LiveSink {
         mut lines,
         out: outlet,
+        ends: _ends,
     } = sink;
     lines.finish(alloc, outlet).map_err(|_fault| AllocError)?;
     Ok(out.into_inner())

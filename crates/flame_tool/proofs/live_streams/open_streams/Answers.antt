@@ -9,7 +9,7 @@ use Rattle.source_views.specs.declared.failures.Failure.TheVariants.{Unreadable}
 use Rattle.stack_core.specs.RowReading.{GivesSome}
 use Rattle.flame_tool.specs.checked.LiveStreams.{IsOfFile}
 use Rattle.flame_tool.proofs.LiveSinks.{err_because}
-use Rattle.flame_tool.proofs.LiveStreamLemmas.{missing_file, not_true, opened_more, opened_whole, present_more}
+use Rattle.flame_tool.proofs.LiveStreamLemmas.{missing_file, not_true, opened_more, opened_whole, present_more, some_streams}
 use Rattle.flame_tool.proofs.live_streams.open_streams.Goals as goal
 
 pub loop-path-preserved : goal.loop-path-preserved
@@ -67,3 +67,9 @@ returns-clause-opened g c =
 
 pub returns-clause-few : goal.returns-clause-few
 returns-clause-few g c = omega (arith, c.loop-path.invariant.count)
+
+pub returns-clause-count : goal.returns-clause-count
+returns-clause-count g c =
+    let some : 0 < length c.args.paths.now = omega (arith, eqb-false (length c.args.paths.now) 0 (sym c.if-is_empty.ensures)) in
+    let count = c.loop-path.invariant.count in
+    sym (some_streams string_bytes c.args.paths.now some ∙ omega arith)

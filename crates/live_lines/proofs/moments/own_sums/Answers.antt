@@ -1,4 +1,3 @@
-use Rattle.std.proofs.Common.{List, subst, sym}
 use Rattle.std.proofs.lemmas.Result.{IfOk-weaker}
 use Rattle.function_sums.specs.FunctionSums.{AreFunctionSums}
 use Rattle.merging.specs.Snapshots.{samples_of_pairs}

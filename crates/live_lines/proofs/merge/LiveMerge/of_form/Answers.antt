@@ -1,4 +1,4 @@
-use Rattle.std.proofs.Common.{[], ◌≡◌, List, ℕ, subst, sym}
+use Rattle.std.proofs.Common.{List, ℕ, subst, sym}
 use Rattle.sample_tables.specs.declared.samples.Sample.{Sample}
 use Rattle.live_lines.specs.checked.Merges.{IsLiveMerge}
 use Rattle.live_lines.proofs.MergeLemmas.{merge_starts}

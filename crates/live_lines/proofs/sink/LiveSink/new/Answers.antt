@@ -1,5 +1,6 @@
 use Rattle.std.proofs.Common.{ap, arith, length, subst, sym}
 use Rattle.std.specs.Prelude.{None}
+use Rattle.live_lines.specs.Ends.{has_lost}
 use Rattle.live_lines.specs.Lines.{live_lines}
 use Rattle.live_lines.specs.checked.Writes.{AreWritten}
 use Rattle.live_lines.proofs.LineLemmas.{lines_none}
@@ -15,4 +16,4 @@ invariant_of-result g c =
     let lines = live_lines merge.form merge.sources c.args.width c.args.every merge.taken in
     let written = written_same _ lines None known known failures failures (lines_none merge.form merge.sources c.args.width c.args.every merge.taken c.requires.nothing) (nothing_written known failures) in
     let here = subst (λ (start : g.row.W.Denot). AreWritten lines None (g.W.Outlet.contents start) known (g.W.Outlet.failures start) failures) (sym c.of-start.ensures) written in
-    record { whole = here.whole; front = here.front; counted = here.counted; positive = c.requires.every; flushed = λ none few. absurd (omega (arith, few, c.requires.every, ap length c.requires.nothing)) }
+    record { whole = here.whole; front = here.front; counted = here.counted; positive = c.requires.every; flushed = λ none few. absurd (omega (arith, few, c.requires.every, ap length c.requires.nothing)); unlost = λ none. ap has_lost c.requires.untold }

@@ -5,12 +5,12 @@ use Rattle.stack_core.specs.declared.endings.SourceEnd.{SourceEnd}
 use Rattle.stack_core.specs.declared.endings.SourceEnd.TheVariants.{Clean}
 use Rattle.source_views.specs.Messages.{Tells}
 use Rattle.source_views.proofs.MessageTexts.{tells_more, tells_nothing}
-use Rattle.flame_tool.specs.checked.LiveSaying.{IsTellableEnd, message_of_end, said_of_ends}
+use Rattle.flame_tool.specs.checked.LiveSaying.{message_of_counted, said_of_ends}
 use Rattle.flame_tool.proofs.ToldEndings.{said_of_first}
-use Rattle.flame_tool.proofs.live_graphs.report_ends.Goals as goal
+use Rattle.flame_tool.proofs.end_reports.report_ends.Goals as goal
 
 pub loop-source-init : goal.loop-source-init
-loop-source-init g c = record { within = omega arith; told = λ tellable. tells_nothing _ _ }
+loop-source-init g c = record { within = omega arith; told = tells_nothing _ _ }
 
 pub loop-source-preserved : goal.loop-source-preserved
 loop-source-preserved g c =
@@ -22,17 +22,15 @@ loop-source-preserved g c =
     let start = c.args.err.now in
     let mid = c.loop-source.err in
     let new = c.report_end.new.err in
-    let say = message_of_end plan c.args.is_lost in
+    let say = message_of_counted plan c.args.is_lost in
     let none : SourceEnd × ℕ = (Clean 0, 0) in
     let within : at < length (zip endings counts) = omega (arith, length-zip endings counts) in
     let is : get_or (zip endings counts) at none ≡ (get_or endings at (Clean 0), get_or counts at 0) = get_or-zip endings counts at none (omega arith) (omega arith) in
     record {
       within = omega arith;
-      told = λ tellable.
-          let here = c.report_end.ensures.told (subst (IsTellableEnd plan.is_strict) is (tellable at none within)) in
-          subst (λ text. Tells text (g.E.Outlet.contents start) (g.E.Outlet.contents new) (g.E.Outlet.failures start) (g.E.Outlet.failures new)) (sym (said_of_first say ends at none within))
-          (tells_more (said_of_ends plan c.args.is_lost (take at ends)) (say at (get_or ends at none)) _ _ _ _ _ _ (c.loop-source.invariant.told tellable)
-          (subst (λ end. Tells (say at end) (g.E.Outlet.contents mid) (g.E.Outlet.contents new) (g.E.Outlet.failures mid) (g.E.Outlet.failures new)) (sym is) here));
+      told = subst (λ text. Tells text (g.E.Outlet.contents start) (g.E.Outlet.contents new) (g.E.Outlet.failures start) (g.E.Outlet.failures new)) (sym (said_of_first say ends at none within))
+          (tells_more (said_of_ends plan c.args.is_lost (take at ends)) (say at (get_or ends at none)) _ _ _ _ _ _ c.loop-source.invariant.told
+          (subst (λ end. Tells (say at end) (g.E.Outlet.contents mid) (g.E.Outlet.contents new) (g.E.Outlet.failures mid) (g.E.Outlet.failures new)) (sym is) c.report_end.ensures.told));
     }
 
 pub returns : goal.returns
@@ -40,7 +38,7 @@ returns g c =
     let endings = c.args.endings.now in
     let counts = c.args.counts.now in
     record {
-      told = λ tellable. subst (λ ends. Tells (said_of_ends c.args.plan.now c.args.is_lost ends) (g.E.Outlet.contents c.args.err.now) (g.E.Outlet.contents c.loop-source.err)
+      told = subst (λ ends. Tells (said_of_ends c.args.plan.now c.args.is_lost ends) (g.E.Outlet.contents c.args.err.now) (g.E.Outlet.contents c.loop-source.err)
           (g.E.Outlet.failures c.args.err.now) (g.E.Outlet.failures c.loop-source.err))
-          (take_all c.loop-source.source (zip endings counts) (omega (arith, length-zip endings counts))) (c.loop-source.invariant.told tellable);
+          (take_all c.loop-source.source (zip endings counts) (omega (arith, length-zip endings counts))) c.loop-source.invariant.told;
     }
