@@ -10,10 +10,12 @@ mod lists;
 mod mixed_batches;
 mod refusals;
 mod rows;
+mod sinks;
 mod streams;
 
-use self::fakes::{CLEAN, Counts, Recorder, Tape};
+use self::fakes::{CLEAN, Counts, Tape};
 use self::lists::is_run;
+use self::sinks::Recorder;
 use crate::tests::holds;
 use ring_collect::{CollectFault, Collected, RingSize, collect};
 use stack_core::{Gate, OpenGate, ReadFault, ReadKind, SourceEnd};

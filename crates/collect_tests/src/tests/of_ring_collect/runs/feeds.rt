@@ -2,8 +2,9 @@
 
 ghost use Rattle.std.specs.Prelude.{◌≡◌, ◌≤◌, [], length, All, IfOk};
 
-use super::fakes::{AfterAnEnd, Listener, StopsAt, Weigher};
+use super::fakes::{AfterAnEnd, StopsAt};
 use super::shared;
+use super::sinks::{Listener, Weigher};
 use crate::tests::holds;
 use folded_lines::FoldedRows;
 use ring_collect::{CollectFault, RingSize, collect_rows, feed_rows};

@@ -1,6 +1,7 @@
 //! Gates that wait for one another, or for the sink, and gates that stop sources.
 
-use super::fakes::{AfterATake, AllAsked, CLEAN, CountsCalls, Recorder, StopsAt, StopsAtTwo};
+use super::fakes::{AfterATake, AllAsked, CLEAN, CountsCalls, StopsAt, StopsAtTwo};
+use super::sinks::Recorder;
 use super::{EIGHT, Source, THREE, runs_alone_to, runs_to, shared};
 use crate::tests::holds;
 use ring_collect::{CollectFault, RingSize};

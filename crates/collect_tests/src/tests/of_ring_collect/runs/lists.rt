@@ -1,6 +1,6 @@
 //! What the lists and the sink of a run have.
 
-use super::fakes::Recorder;
+use super::sinks::Recorder;
 use super::{Source, Wanted, name_of};
 use ring_collect::Collected;
 use stack_core::{Sample, SourceList};

@@ -1,8 +1,9 @@
 //! Runs in which a reader or the sink meets want of memory.
 
 use super::batches::few_run_whole;
-use super::fakes::{CLEAN, Recorder, StopsAt};
+use super::fakes::{CLEAN, StopsAt};
 use super::lists::{had, is_cut_short, is_run};
+use super::sinks::Recorder;
 use super::{HUNDRED, Source, THREE, collected};
 use crate::tests::holds;
 use ring_collect::{CollectFault, Collected, RingSize};

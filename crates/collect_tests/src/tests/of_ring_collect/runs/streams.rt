@@ -3,9 +3,10 @@
 ghost use Rattle.std.specs.Prelude.{◌≡◌, ◌≤◌, [], length, All, IfOk};
 ghost use Rattle.stack_core.specs.RowReading.{GivesSome};
 
-use super::fakes::{Counts, HeldBack, Taker};
+use super::fakes::{Counts, HeldBack};
 use super::lists::is_list;
 use super::shared;
+use super::sinks::Taker;
 use crate::tests::holds;
 use byte_io::BytesInlet;
 use folded_lines::FoldedStream;
