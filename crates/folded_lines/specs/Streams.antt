@@ -1,7 +1,9 @@
 -- Folded text that comes by a stream, of which bytes may still come.
-use Rattle.std.specs.Prelude.{◌≡◌, ◌<◌, ◌^◌, ℕ, Bool, true, false, if◌then◌else◌, List, [], ◌++◌, length, Option, IfSome}
+use Rattle.std.specs.Prelude.{◌≡◌, ◌≢◌, ◌↔◌, ◌<◌, ◌^◌, ℕ, Bool, true, false, if◌then◌else◌, List, [], ◌++◌, length, Option, Some, IfSome, IsSomeAnd}
+use Rattle.sample_tables.specs.Rows.{ToldRows}
 use Rattle.stack_core.specs.Prefixes.{IsPrefixOf}
-use Rattle.stack_core.specs.Reading.{Rest}
+use Rattle.stack_core.specs.Reading.{IsSourceLimited, Rest}
+use Rattle.stack_core.specs.RowReading.{GivesSome}
 use Rattle.stack_core.specs.declared.endings.SourceEnd.{SourceEnd}
 use Rattle.stack_core.specs.declared.endings.SourceEnd.TheVariants as ends
 use Rattle.folded_lines.specs.Lines.{text_lines}
@@ -41,3 +43,23 @@ IsCountable coming = length (text_lines coming.bytes) < 2 ^ 64
 -- the rests that a reader of a stream may give before it read anything
 abbrev pub StreamGives : Option (List ℕ) → Bool → Rest → Type 0
 StreamGives known is_sure rest = (coming : Coming) × MayCome known is_sure [] coming × IsCountable coming × (rest ≡ read_coming coming)
+
+-- where no read fails, the bytes are known and fewer than 2^64
+abbrev pub IsReadable : Option (List ℕ) → Bool → Type 0
+IsReadable known is_sure = is_sure ≡ true → IsSomeAnd known (λ bytes. length bytes < 2 ^ 64)
+
+-- a reader of a stream of which nothing was read: the rests that it may give are those that are possible, and it told nothing
+pub record IsUnreadStream (may_give : Rest → Type 0) (has_told : ToldRows) (IsPossible : Rest → Type 0) : Type 0 where
+  pub gives : (rest : Rest) → may_give rest ↔ IsPossible rest
+  pub told : has_told ≡ record { names = []; stacks = [] }
+
+-- What comes by a stream of known bytes is what they give by `read`, unless a read fails. Then the samples are those in front of theirs. A
+-- stream may always give something, where a read may fail, or its bytes are known and fewer than 2^64.
+pub record ReadsAsTexts (Gives : Option (List ℕ) → Bool → Rest → Type 0) (read : List ℕ → Rest) : Type 0 where
+  pub sure : (bytes : List ℕ) (rest : Rest) → Gives (Some bytes) true rest → rest ≡ read bytes
+  pub whole : (bytes : List ℕ) (is_sure : Bool) (rest : Rest) → Gives (Some bytes) is_sure rest
+      → ((after : ℕ) → rest.ending ≢ ends.Stopped after) → rest ≡ read bytes
+  pub front : (bytes : List ℕ) (is_sure : Bool) (rest : Rest) → Gives (Some bytes) is_sure rest
+      → IsPrefixOf rest.samples (read bytes).samples
+  pub possible : (known : Option (List ℕ)) (is_sure : Bool) → IsReadable known is_sure → GivesSome (Gives known is_sure)
+  pub limits : (known : Option (List ℕ)) (is_sure : Bool) (rest : Rest) → Gives known is_sure rest → IsSourceLimited rest.samples

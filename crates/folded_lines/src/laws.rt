@@ -1,19 +1,18 @@
 //! What holds of the definitions.
 
-ghost use Rattle.std.specs.Prelude.{◌≡◌, ◌≢◌, ◌<◌, ◌≤◌, ◌^◌, ◌++◌, ◌∷◌, [], ℕ, Bool, Option, None, Some, true, false, List, All, IsSomeAnd, length, sum_by};
+ghost use Rattle.std.specs.Prelude.{◌≡◌, ◌≢◌, ◌≤◌, ◌++◌, ◌∷◌, [], ℕ, Bool, Option, None, Some, false, List, All, length, sum_by};
 ghost use Rattle.std.specs.List.{concat};
 ghost use Rattle.sample_tables.specs.Samples.{total_weight};
 ghost use Rattle.sample_tables.specs.declared.samples.TheConstants.{WEIGHT_LIMIT};
 ghost use Rattle.sample_tables.specs.declared.samples.Sample.{Sample};
 ghost use Rattle.stack_core.specs.Prefixes.{IsPrefixOf};
-ghost use Rattle.stack_core.specs.Reading.{IsSourceLimited, Rest};
-ghost use Rattle.stack_core.specs.RowReading.{GivesSome};
+ghost use Rattle.stack_core.specs.Reading.{Rest};
 ghost use Rattle.stack_core.specs.declared.endings.SourceEnd.TheVariants as ends;
 ghost use Rattle.folded_lines.specs.LastNames.{last_ends_in_number, is_open};
 ghost use Rattle.folded_lines.specs.Lines.{read_line, text_lines};
 ghost use Rattle.folded_lines.specs.Reading.{begins_compressed, is_ignored, read_folded};
 ghost use Rattle.folded_lines.specs.ReadingBack.{IsPlain, text_of};
-ghost use Rattle.folded_lines.specs.Streams.{StreamGives};
+ghost use Rattle.folded_lines.specs.Streams.{ReadsAsTexts, StreamGives};
 ghost use Rattle.folded_lines.specs.StrictReading.{fault_of_ending, strict_fault};
 ghost use Rattle.folded_lines.specs.StrictStreams.{IsTellable, StrictStreamGives, read_strictly, strict_ending_fault};
 ghost use Rattle.folded_lines.specs.TextParts.{IsWholeLines, AreCutAtLines, IsFaultless, samples_of_parts, ReadsAsParts};
@@ -74,33 +73,15 @@ pub fn strict_text_ends_at_its_fault()
 /// may always give something, where a read may fail, or its bytes are known and fewer than 2^64. The samples are within the limits of a
 /// source.
 pub fn streams_read_as_texts()
-    ensures sure { (bytes : List ℕ) (rest : Rest) → StreamGives (Some bytes) true rest → rest ≡ read_folded bytes }
-    ensures whole { (bytes : List ℕ) (is_sure : Bool) (rest : Rest) → StreamGives (Some bytes) is_sure rest
-        → ((after : ℕ) → rest.ending ≢ ends.Stopped after) → rest ≡ read_folded bytes }
-    ensures front { (bytes : List ℕ) (is_sure : Bool) (rest : Rest) → StreamGives (Some bytes) is_sure rest
-        → IsPrefixOf rest.samples (read_folded bytes).samples }
-    ensures possible { (known : Option (List ℕ)) (is_sure : Bool)
-        → (is_sure ≡ true → IsSomeAnd known (λ bytes. length bytes < 2 ^ 64))
-        → GivesSome (StreamGives known is_sure) }
-    ensures limits { (known : Option (List ℕ)) (is_sure : Bool) (rest : Rest) → StreamGives known is_sure rest
-        → IsSourceLimited rest.samples }
+    ensures { ReadsAsTexts StreamGives read_folded }
 {}
 
 /// The same of a strict reader: what it gives is what the known bytes give up to their first ignored line.
 pub fn strict_streams_read_as_texts()
-    ensures sure { (bytes : List ℕ) (rest : Rest) → StrictStreamGives (Some bytes) true rest → rest ≡ read_strictly bytes }
-    ensures whole { (bytes : List ℕ) (is_sure : Bool) (rest : Rest) → StrictStreamGives (Some bytes) is_sure rest
-        → ((after : ℕ) → rest.ending ≢ ends.Stopped after) → rest ≡ read_strictly bytes }
+    ensures texts { ReadsAsTexts StrictStreamGives read_strictly }
     ensures fault { (bytes : List ℕ) (is_sure : Bool) (rest : Rest) → StrictStreamGives (Some bytes) is_sure rest
         → ((after : ℕ) → rest.ending ≢ ends.Stopped after)
         → strict_ending_fault (length rest.samples) rest.ending ≡ strict_fault bytes }
     ensures tellable { (known : Option (List ℕ)) (is_sure : Bool) (rest : Rest) → StrictStreamGives known is_sure rest
         → IsTellable (length rest.samples) rest.ending }
-    ensures front { (bytes : List ℕ) (is_sure : Bool) (rest : Rest) → StrictStreamGives (Some bytes) is_sure rest
-        → IsPrefixOf rest.samples (read_strictly bytes).samples }
-    ensures possible { (known : Option (List ℕ)) (is_sure : Bool)
-        → (is_sure ≡ true → IsSomeAnd known (λ bytes. length bytes < 2 ^ 64))
-        → GivesSome (StrictStreamGives known is_sure) }
-    ensures limits { (known : Option (List ℕ)) (is_sure : Bool) (rest : Rest) → StrictStreamGives known is_sure rest
-        → IsSourceLimited rest.samples }
 {}

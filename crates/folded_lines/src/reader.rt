@@ -1,9 +1,7 @@
 //! Folded text, read sample by sample.
 
-ghost use Rattle.std.specs.Prelude.{◌≡◌, ◌≢◌, ℕ, [], IsTrue};
-ghost use Rattle.stack_core.specs.Reading.{IsSourceLimited};
-ghost use Rattle.stack_core.specs.declared.endings.SourceEnd.TheVariants.{Stopped};
-ghost use Rattle.folded_lines.specs.Reading.{read_folded};
+ghost use Rattle.std.specs.Prelude.{IsTrue};
+ghost use Rattle.folded_lines.specs.State.{IsUnread};
 
 use crate::rows::FoldedRows;
 use stack_core::{NamingReader, SampleReader, Step};
@@ -31,10 +29,7 @@ impl Model for FoldedReader {
 impl FoldedReader {
     /// A reader of folded text, from its first line. It takes no memory.
     pub fn over(bytes: Vec<u8>) -> Self
-        ensures rest { result.rest ≡ read_folded bytes.items }
-        ensures limits { IsSourceLimited (read_folded bytes.items).samples }
-        ensures told { result.told ≡ record { names = []; stacks = [] } }
-        ensures unstopped { (after : ℕ) → (read_folded bytes.items).ending ≢ Stopped after }
+        ensures { IsUnread bytes.items result }
     {
         let alloc = *bytes.allocator();
         FoldedReader {

@@ -1,10 +1,8 @@
 //! Folded text that is all there, read line by line, by rows of numbers.
 
-ghost use Rattle.std.specs.Prelude.{◌≡◌, ◌≢◌, ℕ, [], IsTrue, refl};
+ghost use Rattle.std.specs.Prelude.{◌≡◌, IsTrue, refl};
 ghost use Rattle.stack_core.specs.Parts.{bytes_of};
-ghost use Rattle.stack_core.specs.Reading.{IsSourceLimited};
-ghost use Rattle.stack_core.specs.declared.endings.SourceEnd.TheVariants.{Stopped};
-ghost use Rattle.folded_lines.specs.Reading.{read_folded};
+ghost use Rattle.folded_lines.specs.State.{IsUnread};
 
 use crate::streams::FoldedStream;
 use byte_io::BytesInlet;
@@ -41,10 +39,7 @@ impl Debug for FoldedRows {
 impl FoldedRows {
     /// A reader of folded text, from its first line. It takes no memory.
     pub fn over(bytes: Vec<u8>) -> Self
-        ensures rest { result.rest ≡ read_folded bytes.items }
-        ensures limits { IsSourceLimited (read_folded bytes.items).samples }
-        ensures told { result.told ≡ record { names = []; stacks = [] } }
-        ensures unstopped { (after : ℕ) → (read_folded bytes.items).ending ≢ Stopped after }
+        ensures { IsUnread bytes.items result }
     {
         let alloc = *bytes.allocator();
         FoldedRows::of(alloc, SourceBytes::Own(bytes))
@@ -52,19 +47,13 @@ impl FoldedRows {
 
     /// A reader of folded text that others share, from its first line. It takes no memory.
     pub fn over_shared(alloc: Global, bytes: Bytes) -> Self
-        ensures rest { result.rest ≡ read_folded bytes }
-        ensures limits { IsSourceLimited (read_folded bytes).samples }
-        ensures told { result.told ≡ record { names = []; stacks = [] } }
-        ensures unstopped { (after : ℕ) → (read_folded bytes).ending ≢ Stopped after }
+        ensures { IsUnread bytes result }
     {
         FoldedRows::of(alloc, SourceBytes::Shared(bytes))
     }
 
     fn of(alloc: Global, bytes: SourceBytes) -> Self
-        ensures rest { result.rest ≡ read_folded (bytes_of bytes) }
-        ensures limits { IsSourceLimited (read_folded (bytes_of bytes)).samples }
-        ensures told { result.told ≡ record { names = []; stacks = [] } }
-        ensures unstopped { (after : ℕ) → (read_folded (bytes_of bytes)).ending ≢ Stopped after }
+        ensures { IsUnread (bytes_of bytes) result }
     {
         FoldedRows {
             stream: FoldedStream::whole(alloc, bytes),

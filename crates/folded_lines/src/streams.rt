@@ -1,6 +1,6 @@
 //! Folded text that comes by a stream, read line by line, by rows of numbers.
 
-ghost use Rattle.std.specs.Prelude.{true, IsSomeAnd, ◌<◌, ◌^◌, ◌≡◌, length};
+ghost use Rattle.std.specs.Prelude.{◌≡◌};
 ghost use Rattle.std.proofs.Props.{props};
 ghost use Rattle.folded_lines.specs.checked.StreamPlaces.{IsStreamPlace, ending_of};
 
@@ -36,37 +36,32 @@ fn ending_of(step: &RowStep) -> Option<SourceEnd>
 }
 
 impl<I: Inlet> FoldedStream<I> {
-    ghost use Rattle.std.specs.Prelude.{◌≡◌, ◌↔◌, ◌<◌, ◌^◌, [], true, false, length, IfOk, IsOk, IsSome, IsSomeAnd, OnErr};
-    ghost use Rattle.stack_core.specs.Prefixes.{IsPrefixOf};
+    ghost use Rattle.std.specs.Prelude.{◌≡◌, ◌↔◌, [], true, false};
     ghost use Rattle.stack_core.specs.Reading.{Rest};
-    ghost use Rattle.stack_core.specs.RowReading.{GivesSome, StepsAmong, IsLastStep, IsLimitedStep};
-    ghost use Rattle.folded_lines.specs.Streams.{StreamGives};
+    ghost use Rattle.folded_lines.specs.Streams.{IsReadable, IsUnreadStream, StreamGives};
     ghost use Rattle.folded_lines.specs.StrictStreams.{StrictStreamGives};
-    ghost use Rattle.folded_lines.specs.checked.StreamPlaces.{GivesBy};
 
     /// A reader of the folded text that comes by an inlet. It takes no memory. Of an inlet of which no read fails, the bytes are known.
     pub fn over(alloc: Global, inlet: I) -> Self
-        requires small { I.is_sure inlet ≡ true → IsSomeAnd (I.remaining inlet) (λ known. length known < 2 ^ 64) }
-        ensures gives { (rest : Rest) → ⟦<FoldedStream<I> as RowReader>⟧.gives result rest
-            ↔ StreamGives (I.remaining inlet) (I.is_sure inlet) rest }
-        ensures told { ⟦<FoldedStream<I> as RowReader>⟧.told result ≡ record { names = []; stacks = [] } }
+        requires small { IsReadable (I.remaining inlet) (I.is_sure inlet) }
+        ensures { IsUnreadStream (⟦<FoldedStream<I> as RowReader>⟧.gives result)
+            (⟦<FoldedStream<I> as RowReader>⟧.told result) (StreamGives (I.remaining inlet) (I.is_sure inlet)) }
     {
         FoldedStream::read_by(alloc, inlet, false)
     }
 
     /// The same, where a line that is ignored ends it: nothing is read behind such a line, and the ending counts it.
     pub fn strict_over(alloc: Global, inlet: I) -> Self
-        requires small { I.is_sure inlet ≡ true → IsSomeAnd (I.remaining inlet) (λ known. length known < 2 ^ 64) }
-        ensures gives { (rest : Rest) → ⟦<FoldedStream<I> as RowReader>⟧.gives result rest
-            ↔ StrictStreamGives (I.remaining inlet) (I.is_sure inlet) rest }
-        ensures told { ⟦<FoldedStream<I> as RowReader>⟧.told result ≡ record { names = []; stacks = [] } }
+        requires small { IsReadable (I.remaining inlet) (I.is_sure inlet) }
+        ensures { IsUnreadStream (⟦<FoldedStream<I> as RowReader>⟧.gives result)
+            (⟦<FoldedStream<I> as RowReader>⟧.told result) (StrictStreamGives (I.remaining inlet) (I.is_sure inlet)) }
     {
         FoldedStream::read_by(alloc, inlet, true)
     }
 
     /// A reader that is strict, or is not.
     fn read_by(alloc: Global, inlet: I, is_strict: bool) -> Self
-        requires small { I.is_sure inlet ≡ true → IsSomeAnd (I.remaining inlet) (λ known. length known < 2 ^ 64) }
+        requires small { IsReadable (I.remaining inlet) (I.is_sure inlet) }
         ensures gives { is_strict ≡ false → (rest : Rest) → ⟦<FoldedStream<I> as RowReader>⟧.gives result rest
             ↔ StreamGives (I.remaining inlet) (I.is_sure inlet) rest }
         ensures strict { is_strict ≡ true → (rest : Rest) → ⟦<FoldedStream<I> as RowReader>⟧.gives result rest

@@ -53,9 +53,13 @@ faults_in shape message =
 
 -- ---- the messages
 
+-- scalars, from 1 on
+abbrev pub scalars_shape : ℕ → ℕ → Shape
+scalars_shape most number = if nat_le 1 number && nat_le number most then scalar_shape else skipped
+
 -- `type` 1 and `unit` 2
 abbrev pub value_type_shape : ℕ → Shape
-value_type_shape number = if nat_le 1 number && nat_le number 2 then scalar_shape else skipped
+value_type_shape = scalars_shape 2
 
 -- `location_id` 1 and `value` 2
 abbrev pub sample_shape : ℕ → Shape
@@ -63,11 +67,11 @@ sample_shape number = if nat_le 1 number && nat_le number 2 then repeated_shape 
 
 -- `function_id` 1 and `line` 2
 abbrev pub line_shape : ℕ → Shape
-line_shape number = if nat_le 1 number && nat_le number 2 then scalar_shape else skipped
+line_shape = scalars_shape 2
 
 -- `id` 1, `name` 2 and `system_name` 3
 abbrev pub function_shape : ℕ → Shape
-function_shape number = if nat_le 1 number && nat_le number 3 then scalar_shape else skipped
+function_shape = scalars_shape 3
 
 -- `id` 1, `address` 3 and `line` 4
 abbrev pub location_shape : ℕ → Shape

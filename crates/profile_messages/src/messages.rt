@@ -1,11 +1,11 @@
 //! The messages of profile.proto, decoded, as far as they are read: which fields each has, with which wire types, and what is wrong with
 //! them. A scalar that stands twice has its last value, and one that does not stand is 0.
 
-ghost use Rattle.std.specs.Prelude.{◌≡◌, IfOk};
+ghost use Rattle.std.specs.Prelude.{◌≡◌, ◌≤◌, IfOk};
 ghost use Rattle.wire_fields.specs.Field.{seen_value};
 ghost use Rattle.profile_messages.specs.Shapes.{kind_of, value_type_shape, line_shape, function_shape};
 ghost use Rattle.profile_messages.specs.Records.{line_in, value_type_in, function_in};
-ghost use Rattle.profile_messages.specs.checked.Decoding.{IsScalarSet, IsDecoded, IsLineAppended, IsLocationDecoded};
+ghost use Rattle.profile_messages.specs.checked.Decoding.{AreScalars, IsScalarSet, IsDecoded, IsLineAppended, IsLocationDecoded};
 
 use stack_core::ReadKind;
 use std::alloc::AllocError;
@@ -92,71 +92,31 @@ pub(crate) fn set_scalar(scalar: &mut u64, value: FieldValue<'_>) -> Option<Read
     }
 }
 
-/// Decodes a sample type: `type` 1 and `unit` 2.
-pub(crate) fn decode_value_type(at: usize, message: &[u8]) -> Result<ValueType, ReadKind>
-    ensures { IsDecoded value_type_shape (value_type_in at) message.now result }
-{
-    let mut type_ = 0;
-    let mut unit = 0;
-    let mut fields = Fields::over(message);
-    loop {
-        match fields.next() {
-            Ok(Some(field)) => {
-                let fault = match field.number {
-                    1 => set_scalar(&mut type_, field.value),
-                    2 => set_scalar(&mut unit, field.value),
-                    _ => None,
-                };
-                if let Some(kind) = fault {
-                    return Err(kind);
-                }
-            }
-            Ok(None) => return Ok(ValueType { at, type_, unit }),
-            Err(fault) => return Err(read_kind(fault.kind)),
-        }
-    }
+/// Scalars of a message, its fields 1, 2 and 3.
+#[derive(Clone, Copy)]
+struct Scalars {
+    first: u64,
+    second: u64,
+    /// 0 where the third is not read.
+    third: u64,
 }
 
-/// Decodes a line: `function_id` 1 and `line` 2.
-fn decode_line(message: &[u8]) -> Result<Line, ReadKind>
-    ensures { IsDecoded line_shape line_in message.now result }
+/// Decodes a message of two or three scalars, its fields from 1 on.
+fn decode_scalars(message: &[u8], most: u32) -> Result<Scalars, ReadKind>
+    requires { (2 ≤ most) × (most ≤ 3) }
+    ensures { AreScalars most message.now result }
 {
-    let mut function_id = 0;
-    let mut line = 0;
+    let mut first = 0;
+    let mut second = 0;
+    let mut third = 0;
     let mut fields = Fields::over(message);
     loop {
         match fields.next() {
             Ok(Some(field)) => {
                 let fault = match field.number {
-                    1 => set_scalar(&mut function_id, field.value),
-                    2 => set_scalar(&mut line, field.value),
-                    _ => None,
-                };
-                if let Some(kind) = fault {
-                    return Err(kind);
-                }
-            }
-            Ok(None) => return Ok(Line { function_id, line }),
-            Err(fault) => return Err(read_kind(fault.kind)),
-        }
-    }
-}
-
-/// Decodes a function: `id` 1, `name` 2 and `system_name` 3.
-pub(crate) fn decode_function(at: usize, message: &[u8]) -> Result<Function, ReadKind>
-    ensures { IsDecoded function_shape (function_in at) message.now result }
-{
-    let mut id = 0;
-    let mut name = 0;
-    let mut system_name = 0;
-    let mut fields = Fields::over(message);
-    loop {
-        match fields.next() {
-            Ok(Some(field)) => {
-                let fault = match field.number {
-                    1 => set_scalar(&mut id, field.value),
-                    2 => set_scalar(&mut name, field.value),
-                    3 => set_scalar(&mut system_name, field.value),
+                    1 => set_scalar(&mut first, field.value),
+                    2 => set_scalar(&mut second, field.value),
+                    3 if most == 3 => set_scalar(&mut third, field.value),
                     _ => None,
                 };
                 if let Some(kind) = fault {
@@ -164,16 +124,51 @@ pub(crate) fn decode_function(at: usize, message: &[u8]) -> Result<Function, Rea
                 }
             }
             Ok(None) => {
-                return Ok(Function {
-                    at,
-                    id,
-                    name,
-                    system_name,
+                return Ok(Scalars {
+                    first,
+                    second,
+                    third,
                 });
             }
             Err(fault) => return Err(read_kind(fault.kind)),
         }
     }
+}
+
+/// Decodes a sample type: `type` 1 and `unit` 2.
+pub(crate) fn decode_value_type(at: usize, message: &[u8]) -> Result<ValueType, ReadKind>
+    ensures { IsDecoded value_type_shape (value_type_in at) message.now result }
+{
+    let scalars = decode_scalars(message, 2)?;
+    Ok(ValueType {
+        at,
+        type_: scalars.first,
+        unit: scalars.second,
+    })
+}
+
+/// Decodes a line: `function_id` 1 and `line` 2.
+fn decode_line(message: &[u8]) -> Result<Line, ReadKind>
+    ensures { IsDecoded line_shape line_in message.now result }
+{
+    let scalars = decode_scalars(message, 2)?;
+    Ok(Line {
+        function_id: scalars.first,
+        line: scalars.second,
+    })
+}
+
+/// Decodes a function: `id` 1, `name` 2 and `system_name` 3.
+pub(crate) fn decode_function(at: usize, message: &[u8]) -> Result<Function, ReadKind>
+    ensures { IsDecoded function_shape (function_in at) message.now result }
+{
+    let scalars = decode_scalars(message, 3)?;
+    Ok(Function {
+        at,
+        id: scalars.first,
+        name: scalars.second,
+        system_name: scalars.third,
+    })
 }
 
 /// Appends one more line, or answers what is wrong with it.

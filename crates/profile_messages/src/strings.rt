@@ -1,6 +1,8 @@
 //! The string table, and the indexes into it.
 
-ghost use Rattle.std.specs.Prelude.{◌≡◌, ◌++◌, flat_map};
+ghost use Rattle.std.specs.Prelude.{◌≡◌, ◌++◌, List, Option, flat_map};
+ghost use Rattle.std.specs.Fn.{FnReturnsAt};
+ghost use Rattle.stack_core.specs.declared.endings.ReadFault.{ReadFault as Fault};
 ghost use Rattle.profile_messages.specs.Message.{first};
 ghost use Rattle.profile_messages.specs.Tables.{string_at as string_of, string_zero_faults, index_faults, faults_of_type, faults_of_function};
 ghost use Rattle.profile_messages.specs.SeenProfile.{seen_table, texts_of};
@@ -56,12 +58,15 @@ fn pair_fault(count: usize, at: usize, this: u64, next: u64) -> Option<ReadFault
     }
 }
 
-/// What is wrong with the string indexes of sample types.
-pub(crate) fn type_names_fault(count: usize, value_types: &[ValueType]) -> Option<ReadFault>
-    ensures { result ≡ first (flat_map (faults_of_type count) value_types.now) }
+/// The first fault of entries, of which each has its own.
+fn first_fault<T, F: Fn(&T) -> Option<ReadFault>>(entries: &[T], fault_of: F) -> Option<ReadFault>
+    requires { F.IsAlwaysCallable fault_of }
+    ensures { (faults : T → List Fault)
+        → ((entry : T) (fault : Option Fault) → FnReturnsAt F.Fn fault_of entry fault → fault ≡ first (faults entry))
+        → result ≡ first (flat_map faults entries.now) }
 {
-    for value_type in value_types {
-        let fault = pair_fault(count, value_type.at, value_type.type_, value_type.unit);
+    for entry in entries {
+        let fault = fault_of(entry);
         if fault.is_some() {
             return fault;
         }
@@ -69,15 +74,22 @@ pub(crate) fn type_names_fault(count: usize, value_types: &[ValueType]) -> Optio
     None
 }
 
+/// What is wrong with the string indexes of sample types.
+pub(crate) fn type_names_fault(count: usize, value_types: &[ValueType]) -> Option<ReadFault>
+    ensures { result ≡ first (flat_map (faults_of_type count) value_types.now) }
+{
+    first_fault(
+        value_types,
+        |entry| pair_fault(count, entry.at, entry.type_, entry.unit),
+    )
+}
+
 /// What is wrong with the string indexes of functions.
 pub(crate) fn function_names_fault(count: usize, functions: &[Function]) -> Option<ReadFault>
     ensures { result ≡ first (flat_map (faults_of_function count) functions.now) }
 {
-    for function in functions {
-        let fault = pair_fault(count, function.at, function.name, function.system_name);
-        if fault.is_some() {
-            return fault;
-        }
-    }
-    None
+    first_fault(
+        functions,
+        |entry| pair_fault(count, entry.at, entry.name, entry.system_name),
+    )
 }

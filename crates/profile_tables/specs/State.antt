@@ -1,11 +1,16 @@
 -- A reader as contracts see it.
-use Rattle.std.specs.Prelude.{Bool, Option, None, [], IsTrue, if◌then◌else◌}
+use Rattle.std.specs.Prelude.{◌≡◌, ◌≢◌, ℕ, Bool, List, Option, None, [], IsTrue, if◌then◌else◌}
+use Rattle.stack_core.specs.declared.endings.SourceEnd.TheVariants.{Stopped}
 use Rattle.stack_core.specs.declared.readers.RowStep.{RowStep}
 use Rattle.stack_core.specs.declared.readers.RowStep.TheVariants as row
 use Rattle.stack_core.specs.declared.readers.Step.{Step}
 use Rattle.stack_core.specs.declared.readers.Step.TheVariants as step
-use Rattle.stack_core.specs.Reading.{Rest}
+use Rattle.stack_core.specs.Reading.{Rest, IsSourceLimited}
 use Rattle.sample_tables.specs.Rows.{ToldRows}
+use Rattle.run_options.specs.declared.choices.Pick.{Pick}
+use Rattle.run_options.specs.declared.choices.Naming.{Naming}
+use Rattle.profile_messages.specs.SampleTypes.{chosen_type}
+use Rattle.profile_tables.specs.Samples.{read_pprof}
 use Rattle.profile_messages.specs.declared.types.SampleType.{SampleType}
 
 pub record State : Type 0 where
@@ -22,6 +27,14 @@ pub record State : Type 0 where
 
 abbrev pub nothing_told : ToldRows
 nothing_told = record { names = []; stacks = [] }
+
+-- a reader of a file of which nothing was read
+pub record IsUnread (file : List ℕ) (pick : Pick) (naming : Naming) (state : State) : Type 0 where
+  pub rest : state.rest ≡ read_pprof file pick naming
+  pub told : state.told ≡ nothing_told
+  pub chosen_type : state.chosen_type ≡ chosen_type file pick
+  pub limits : IsSourceLimited (read_pprof file pick naming).samples
+  pub unstopped : (after : ℕ) → (read_pprof file pick naming).ending ≢ Stopped after
 
 -- the sample type that it tells
 abbrev pub told_type : State → Option SampleType

@@ -5,7 +5,7 @@ ghost use Rattle.stack_core.specs.NamesInOrder.{with_name};
 ghost use Rattle.stack_core.specs.Prefixes.{IsPrefixOf};
 ghost use Rattle.profile_tables.specs.Samples.{stack_of_ids};
 ghost use Rattle.profile_tables.specs.checked.Frames.{text_in, name_in_place, frames_at};
-ghost use Rattle.profile_tables.specs.checked.FrameNumbers.{all_texts, text_at, root_first, AreKept, AreNumbersOf, IsNumbered};
+ghost use Rattle.profile_tables.specs.checked.FrameNumbers.{all_texts, text_at, root_first, AreKept, AreNumbersOf, IsLookUp, IsNumbered};
 
 use crate::frames::{Frame, Frames};
 use crate::kept_numbers::KeptNumbers;
@@ -41,13 +41,7 @@ impl FrameNumbers {
     /// The number of the name at a place.
     fn look_up_name(&mut self, frames: &Frames, place: usize) -> Result<usize, AllocError>
         requires known { AreKept (name_in_place frames.now) self.old.table self.old.names.numbers.items }
-        ensures known { AreKept (name_in_place frames.now) self.new.table self.new.names.numbers.items }
-        ensures names { OnOk result
-            (self.new.table ≡ with_name self.old.table (name_in_place frames.now place)) }
-        ensures number { IfOk result (λ number.
-            slice_get self.new.table number ≡ Some (name_in_place frames.now place)) }
-        ensures frames { self.new.frames ≡ self.old.frames }
-        ensures refused { OnErr result (self.new ≡ self.old) }
+        ensures { IsLookUp frames.now (name_in_place frames.now place) self.old self.new result }
     {
         if let Some(number) = self.names.get(place) {
             return Ok(number);
@@ -60,13 +54,7 @@ impl FrameNumbers {
     /// The number of a frame's name, which the table gets where it is new. No name is made where the table knows it.
     fn look_up(&mut self, alloc: Global, frames: &Frames, frame: Frame) -> Result<usize, AllocError>
         requires known { AreKept (name_in_place frames.now) self.old.table self.old.names.numbers.items }
-        ensures known { AreKept (name_in_place frames.now) self.new.table self.new.names.numbers.items }
-        ensures names { OnOk result
-            (self.new.table ≡ with_name self.old.table (text_in frames.now frame)) }
-        ensures number { IfOk result (λ number.
-            slice_get self.new.table number ≡ Some (text_in frames.now frame)) }
-        ensures frames { self.new.frames ≡ self.old.frames }
-        ensures refused { OnErr result (self.new ≡ self.old) }
+        ensures { IsLookUp frames.now (text_in frames.now frame) self.old self.new result }
     {
         match frames.plain_place(frame) {
             Some(place) => self.look_up_name(frames, place),

@@ -1,12 +1,9 @@
 //! A pprof profile, read sample by sample.
 
-ghost use Rattle.std.specs.Prelude.{◌≡◌, ◌≢◌, ◌<◌, ◌^◌, ℕ, length, IfOk, OnErr, IsOk, IsTrue};
-ghost use Rattle.stack_core.specs.Reading.{Steps, IsEnd, IsWithinLimits, IsSourceLimited};
-ghost use Rattle.stack_core.specs.declared.endings.SourceEnd.TheVariants.{Stopped};
-ghost use Rattle.profile_tables.specs.Samples.{read_pprof};
-ghost use Rattle.profile_messages.specs.SampleTypes.{chosen_type};
+ghost use Rattle.std.specs.Prelude.{◌≡◌, ◌<◌, ◌^◌, length, IfOk, OnErr, IsOk, IsTrue};
+ghost use Rattle.stack_core.specs.Reading.{Steps, IsEnd, IsWithinLimits};
 ghost use Rattle.profile_tables.specs.SeenTables.{LendsType};
-ghost use Rattle.profile_tables.specs.State.{nothing_told, told_type, HasRead};
+ghost use Rattle.profile_tables.specs.State.{IsUnread, told_type, HasRead};
 
 use crate::row_reader::PprofRows;
 use profile_messages::SampleType;
@@ -38,12 +35,7 @@ impl Model for PprofReader {
 impl PprofReader {
     /// A reader of a file's bytes. It takes no memory: the first `next` reads the tables.
     pub fn over(bytes: Vec<u8>, pick: Pick, naming: Naming) -> Self
-        ensures rest { result.rest ≡ read_pprof bytes.items pick naming }
-        ensures told { result.told ≡ nothing_told }
-        ensures chosen_type { result.chosen_type ≡ chosen_type bytes.items pick }
-        ensures limits { IsSourceLimited (read_pprof bytes.items pick naming).samples }
-        ensures unstopped { (after : ℕ)
-            → (read_pprof bytes.items pick naming).ending ≢ Stopped after }
+        ensures { IsUnread bytes.items pick naming result }
     {
         let samples = RowSamples::new(*bytes.allocator());
         PprofReader {

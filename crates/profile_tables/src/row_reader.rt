@@ -1,15 +1,11 @@
 //! A pprof profile, read by rows of numbers.
 
-ghost use Rattle.std.specs.Prelude.{◌≡◌, ◌≢◌, ◌<◌, ◌^◌, ℕ, length, IfOk, OnErr, IsOk, IsTrue, refl};
+ghost use Rattle.std.specs.Prelude.{◌≡◌, ◌<◌, ◌^◌, length, IfOk, OnErr, IsOk, IsTrue, refl};
 ghost use Rattle.stack_core.specs.Parts.{bytes_of};
 ghost use Rattle.stack_core.specs.Prefixes.{IsPrefixOf};
-ghost use Rattle.stack_core.specs.Reading.{IsSourceLimited};
 ghost use Rattle.stack_core.specs.RowReading.{StepsByRows, IsLastStep, IsLimitedStep};
-ghost use Rattle.stack_core.specs.declared.endings.SourceEnd.TheVariants.{Stopped};
-ghost use Rattle.profile_tables.specs.Samples.{read_pprof};
-ghost use Rattle.profile_messages.specs.SampleTypes.{chosen_type};
 ghost use Rattle.profile_tables.specs.SeenTables.{LendsType};
-ghost use Rattle.profile_tables.specs.State.{nothing_told, told_type, HasReadRow};
+ghost use Rattle.profile_tables.specs.State.{IsUnread, told_type, HasReadRow};
 
 mod parts;
 
@@ -59,31 +55,20 @@ impl Model for PprofRows {
 impl PprofRows {
     /// A reader of a file's bytes. It takes no memory: the first `next_row` reads the tables.
     pub fn over(bytes: Vec<u8>, pick: Pick, naming: Naming) -> Self
-        ensures rest { result.rest ≡ read_pprof bytes.items pick naming }
-        ensures told { result.told ≡ nothing_told }
-        ensures chosen_type { result.chosen_type ≡ chosen_type bytes.items pick }
-        ensures limits { IsSourceLimited (read_pprof bytes.items pick naming).samples }
-        ensures unstopped { (after : ℕ)
-            → (read_pprof bytes.items pick naming).ending ≢ Stopped after }
+        ensures { IsUnread bytes.items pick naming result }
     {
         PprofRows::unread(SourceBytes::Own(bytes), pick, naming)
     }
 
     /// A reader of a file's bytes that others share. It takes no memory either.
     pub fn over_shared(bytes: Bytes, pick: Pick, naming: Naming) -> Self
-        ensures rest { result.rest ≡ read_pprof bytes pick naming }
-        ensures told { result.told ≡ nothing_told }
-        ensures chosen_type { result.chosen_type ≡ chosen_type bytes pick }
-        ensures limits { IsSourceLimited (read_pprof bytes pick naming).samples }
-        ensures unstopped { (after : ℕ) → (read_pprof bytes pick naming).ending ≢ Stopped after }
+        ensures { IsUnread bytes pick naming result }
     {
         PprofRows::unread(SourceBytes::Shared(bytes), pick, naming)
     }
 
     fn unread(bytes: SourceBytes, pick: Pick, naming: Naming) -> Self
-        ensures rest { result.rest ≡ read_pprof (bytes_of bytes) pick naming }
-        ensures told { result.told ≡ nothing_told }
-        ensures chosen_type { result.chosen_type ≡ chosen_type (bytes_of bytes) pick }
+        ensures { IsUnread (bytes_of bytes) pick naming result }
     {
         PprofRows {
             bytes,

@@ -6,7 +6,7 @@ ghost use Rattle.sample_tables.specs.Rows.{named, row_by};
 ghost use Rattle.sample_tables.specs.declared.samples.Sample.{Sample as TakenSample};
 ghost use Rattle.stack_core.specs.Interleaving.{of_source};
 
-use crate::feeds::Feed;
+use crate::feeds::{ArrivedRow, Feed};
 use crate::intakes::{Intake, Stage};
 use stack_core::{Close, Ledger, SourceEnd};
 use std::alloc::{AllocError, Global};
@@ -57,23 +57,17 @@ pub trait EndSink {
 
 /// Hands a sink by rows the rows, and tells it how sources end.
 #[derive(Drop)]
-pub struct WithEnds;
+pub struct WithEnds {
+    pub alloc: Global,
+}
 
 impl<S: EndSink> Feed<S> for WithEnds {
     ghost taken = { λ sink. S.taken sink };
 
     ghost setting = { λ sink. record { numbers = S.setting sink; known = S.sources sink; heard = S.heard sink } };
 
-    fn feed(
-        &mut self,
-        alloc: Global,
-        sink: &mut S,
-        source: u32,
-        ledger: &Ledger,
-        row: usize,
-        weight: u64,
-    ) -> Result<(), AllocError> {
-        sink.take_row(alloc, source, ledger, row, weight)
+    fn feed(&mut self, sink: &mut S, row: ArrivedRow<'_>) -> Result<(), AllocError> {
+        sink.take_row(self.alloc, row.source, row.ledger, row.stack, row.weight)
     }
 
     fn end(&mut self, sink: &mut S, source: u32, ending: &SourceEnd) {

@@ -9,6 +9,15 @@ ghost use Rattle.stack_core.specs.Interleaving.{of_source};
 use stack_core::{Ledger, RowSink, SourceEnd};
 use std::alloc::{AllocError, Global};
 
+/// A sample that arrived: of this source, and of the stack that its ledger keeps under this number.
+#[derive(Clone, Copy)]
+pub struct ArrivedRow<'a> {
+    pub source: u32,
+    pub ledger: &'a Ledger,
+    pub stack: usize,
+    pub weight: u64,
+}
+
 /// Feeds a sink of this type.
 pub trait Feed<S> {
     /// What the sink has taken.
@@ -17,21 +26,13 @@ pub trait Feed<S> {
     /// What no take changes: its own numbers, and what it was told of ends.
     ghost setting: { S → Kept };
 
-    /// Hands the sink a sample of the stack that this ledger of the source keeps under this number.
-    fn feed(
-        &mut self,
-        alloc: Global,
-        sink: &mut S,
-        source: u32,
-        ledger: &Ledger,
-        row: usize,
-        weight: u64,
-    ) -> Result<(), AllocError>
-        requires { row < length ledger.now.stacks }
+    /// Hands the sink a sample.
+    fn feed(&mut self, sink: &mut S, row: ArrivedRow<'_>) -> Result<(), AllocError>
+        requires { row.stack < length row.ledger.now.stacks }
         ensures ok { OnOk result (taken sink.new ≡ taken sink.old ++ (
-          source,
-          named ledger.now.told
-              (row_by ledger.now.stacks (record { stack = row; weight = weight })),
+          row.entry.source,
+          named row.entry.ledger.now.told (row_by row.entry.ledger.now.stacks
+              (record { stack = row.entry.stack; weight = row.entry.weight })),
         ) ∷ []) }
         ensures refused { OnErr result (taken sink.new ≡ taken sink.old) }
         ensures setting { setting sink.new ≡ setting sink.old };
@@ -47,23 +48,17 @@ pub trait Feed<S> {
 
 /// Hands a sink by rows the rows.
 #[derive(Drop)]
-pub struct ByRows;
+pub struct ByRows {
+    pub alloc: Global,
+}
 
 impl<S: RowSink> Feed<S> for ByRows {
     ghost taken = { λ sink. S.taken sink };
 
     ghost setting = { λ sink. record { numbers = S.setting sink; known = 0; heard = [] } };
 
-    fn feed(
-        &mut self,
-        alloc: Global,
-        sink: &mut S,
-        source: u32,
-        ledger: &Ledger,
-        row: usize,
-        weight: u64,
-    ) -> Result<(), AllocError> {
-        sink.take_row(alloc, source, ledger, row, weight)
+    fn feed(&mut self, sink: &mut S, row: ArrivedRow<'_>) -> Result<(), AllocError> {
+        sink.take_row(self.alloc, row.source, row.ledger, row.stack, row.weight)
     }
 
     fn end(&mut self, _sink: &mut S, _source: u32, _ending: &SourceEnd) {}

@@ -4,7 +4,6 @@ use crate::feeds::Feed;
 use crate::flat_records::{FlatRecords, Step, Unread};
 use crate::intakes::Intake;
 use stack_core::RingRecord;
-use std::alloc::Global;
 
 impl Intake {
     ghost use Rattle.std.specs.Prelude.{◌≡◌, ◌≤◌, ◌∷◌, [], All, None, length};
@@ -18,7 +17,6 @@ impl Intake {
     /// Takes a row that came out of the ring, or drops it where none is taken any more.
     fn take_or_drop_row<S, F: Feed<S>>(
         &mut self,
-        alloc: Global,
         frames: &[usize],
         weight: u64,
         feed: &mut F,
@@ -39,13 +37,12 @@ impl Intake {
         if !self.stage.is_taking() {
             return;
         }
-        self.stage = self.take_row(alloc, frames, weight, feed, sink, order);
+        self.stage = self.take_row(frames, weight, feed, sink, order);
     }
 
     /// Takes or drops the record that a step tells.
     fn take_step<S, F: Feed<S>>(
         &mut self,
-        alloc: Global,
         step: Step,
         unread: &mut Unread<'_>,
         feed: &mut F,
@@ -72,16 +69,16 @@ impl Intake {
         match step {
             Step::Name => {
                 let named = RingRecord::Name(unread.next_name());
-                self.take_or_drop(alloc, named, feed, sink, order);
+                self.take_or_drop(named, feed, sink, order);
             }
             Step::Row { depth, weight } => {
                 let frames = unread.next_frames(depth);
-                self.take_or_drop_row(alloc, frames, weight, feed, sink, order);
+                self.take_or_drop_row(frames, weight, feed, sink, order);
             }
             Step::Again { row, weight } => {
                 let row = row as usize;
                 let again = RingRecord::Again { row, weight };
-                self.take_or_drop(alloc, again, feed, sink, order);
+                self.take_or_drop(again, feed, sink, order);
             }
         }
     }
@@ -89,7 +86,6 @@ impl Intake {
     /// Takes or drops records that came out of the ring together, in their order.
     pub fn take_all<S, F: Feed<S>>(
         &mut self,
-        alloc: Global,
         popped: FlatRecords,
         feed: &mut F,
         sink: &mut S,
@@ -114,7 +110,7 @@ impl Intake {
             frames: frames.as_slice(),
         };
         for step in steps {
-            self.take_step(alloc, step, &mut unread, feed, sink, order);
+            self.take_step(step, &mut unread, feed, sink, order);
         }
     }
 }

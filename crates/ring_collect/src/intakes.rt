@@ -5,10 +5,9 @@ ghost use Rattle.ring_collect.specs.checked.Batches.{close_after_batch};
 ghost use Rattle.ring_collect.specs.checked.Records.{close_after};
 
 use crate::batches::Batch;
-use crate::feeds::Feed;
+use crate::feeds::{ArrivedRow, Feed};
 use crate::rings::BatchConsumer;
 use stack_core::{Close, Ledger, RingRecord};
-use std::alloc::Global;
 
 /// What is done with the records that come.
 #[derive(Clone, Copy, Debug, PartialEq, Eq)]
@@ -139,7 +138,6 @@ impl Intake {
     /// kept. Answers the stage after it.
     fn take_again<S, F: Feed<S>>(
         &mut self,
-        alloc: Global,
         row: usize,
         weight: u64,
         feed: &mut F,
@@ -157,8 +155,13 @@ impl Intake {
         if row >= self.ledger.stack_count() {
             return Stage::Unnamed;
         }
-        let ledger = &self.ledger;
-        let fed = feed.feed(alloc, sink, self.origin.number, ledger, row, weight);
+        let arrived = ArrivedRow {
+            source: self.origin.number,
+            ledger: &self.ledger,
+            stack: row,
+            weight,
+        };
+        let fed = feed.feed(sink, arrived);
         if fed.is_err() {
             return Stage::Dropping;
         }
@@ -174,7 +177,6 @@ impl Intake {
     /// Takes a row: its stack is kept, and then a sample of it is taken. Answers the stage after it.
     pub fn take_row<S, F: Feed<S>>(
         &mut self,
-        alloc: Global,
         frames: &[usize],
         weight: u64,
         feed: &mut F,
@@ -197,13 +199,12 @@ impl Intake {
         if self.ledger.keep(frames).is_err() {
             return Stage::Dropping;
         }
-        self.take_again(alloc, row, weight, feed, sink, order)
+        self.take_again(row, weight, feed, sink, order)
     }
 
     /// Takes a record that came out of the ring. Answers the stage after it.
     fn take_record<S, F: Feed<S>>(
         &mut self,
-        alloc: Global,
         popped: RingRecord,
         feed: &mut F,
         sink: &mut S,
@@ -223,11 +224,9 @@ impl Intake {
                 Err(_) => Stage::Dropping,
             },
             RingRecord::Row { frames, weight } => {
-                self.take_row(alloc, frames.get(), weight, feed, sink, order)
+                self.take_row(frames.get(), weight, feed, sink, order)
             }
-            RingRecord::Again { row, weight } => self.take_again(
-                alloc, row, weight, feed, sink, order,
-            ),
+            RingRecord::Again { row, weight } => self.take_again(row, weight, feed, sink, order),
             RingRecord::Close(last) => {
                 self.close = Some(last);
                 Stage::Taking
@@ -238,7 +237,6 @@ impl Intake {
     /// Takes a record that came out of the ring, or drops it where none is taken any more. What closes the ring is noted.
     pub fn take_or_drop<S, F: Feed<S>>(
         &mut self,
-        alloc: Global,
         popped: RingRecord,
         feed: &mut F,
         sink: &mut S,
@@ -258,13 +256,12 @@ impl Intake {
             note_close(&mut self.close, popped);
             return;
         }
-        self.stage = self.take_record(alloc, popped, feed, sink, order);
+        self.stage = self.take_record(popped, feed, sink, order);
     }
 
     /// Takes or drops what came out of the ring.
     fn take_batch<S, F: Feed<S>>(
         &mut self,
-        alloc: Global,
         popped: Batch,
         feed: &mut F,
         sink: &mut S,
@@ -279,15 +276,14 @@ impl Intake {
         ensures setting { F.setting sink.new ≡ F.setting sink.old }
     {
         match popped {
-            Batch::One(one) => self.take_or_drop(alloc, one, feed, sink, order),
-            Batch::Many(records) => self.take_all(alloc, records, feed, sink, order),
+            Batch::One(one) => self.take_or_drop(one, feed, sink, order),
+            Batch::Many(records) => self.take_all(records, feed, sink, order),
         }
     }
 
     /// Takes the next batch, if one is there.
     pub fn take_next<S, F: Feed<S>>(
         &mut self,
-        alloc: Global,
         feed: &mut F,
         sink: &mut S,
         order: &mut Vec<u32>,
@@ -306,7 +302,7 @@ impl Intake {
         let Ok(popped) = self.consumer.pop() else {
             return Look::Idle;
         };
-        self.take_batch(alloc, popped, feed, sink, order);
+        self.take_batch(popped, feed, sink, order);
         Look::Moved
     }
 

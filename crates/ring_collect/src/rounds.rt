@@ -1,14 +1,13 @@
 //! The collecting thread's rounds: in each it visits every ring that is not closed.
 
 ghost use Rattle.std.specs.Prelude.{◌≡◌, ◌<◌, ℕ, IsSome, IfSome, length, slice_get};
-ghost use Rattle.ring_collect.specs.checked.Rounds.{GoesOn};
+ghost use Rattle.ring_collect.specs.checked.Rounds.{GoesOn, WasClosed};
 
 use crate::feeds::Feed;
 use crate::intakes::Look;
 use crate::pauses::Pause;
 use crate::running_sources::RunningSource;
 use stack_core::{Gate, RowReader};
-use std::alloc::Global;
 use std::sync::Wait;
 
 /// The most batches that are taken from a ring before the next ring's turn.
@@ -29,19 +28,11 @@ pub struct Collector<R: RowReader, G: Gate> {
 
 impl<R: RowReader, G: Gate> Collector<R, G> {
     /// Looks into the ring of the source with this number, if it is not closed. Where that closes it, the sink is told how the source ended.
-    fn look_at<S, F: Feed<S>>(
-        &mut self,
-        alloc: Global,
-        source: usize,
-        feed: &mut F,
-        sink: &mut S,
-    ) -> Look
+    fn look_at<S, F: Feed<S>>(&mut self, source: usize, feed: &mut F, sink: &mut S) -> Look
         requires { source < length self.old.sources.items }
         ensures goes { GoesOn self.old self.new (F.taken sink.old) (F.taken sink.new)
             (F.setting sink.old) (F.setting sink.new) }
-        ensures closed { result ≡ Look.Closed → (self.new.sources.items ≡ self.old.sources.items)
-            × IfSome (slice_get self.old.sources.items source)
-            (λ running. IsSome running.intake.close) }
+        ensures closed { WasClosed source self.old self.new result }
     {
         let running = &mut self.sources[source];
         if running.intake.close.is_some() {
@@ -52,7 +43,7 @@ impl<R: RowReader, G: Gate> Collector<R, G> {
             running.intake.tell_end(feed, sink);
             return look;
         }
-        let look = running.intake.take_next(alloc, feed, sink, &mut self.order);
+        let look = running.intake.take_next(feed, sink, &mut self.order);
         self.refused = running.intake.stage.is_dropping();
         running.intake.tell_end(feed, sink);
         look
@@ -70,26 +61,18 @@ impl<R: RowReader, G: Gate> Collector<R, G> {
     }
 
     /// Looks into the ring of the source with this number until nothing is there or it is closed, `VISIT` times at most.
-    fn visit<S, F: Feed<S>>(
-        &mut self,
-        alloc: Global,
-        source: usize,
-        feed: &mut F,
-        sink: &mut S,
-    ) -> Look
+    fn visit<S, F: Feed<S>>(&mut self, source: usize, feed: &mut F, sink: &mut S) -> Look
         requires { source < length self.old.sources.items }
         ensures goes { GoesOn self.old self.new (F.taken sink.old) (F.taken sink.new)
             (F.setting sink.old) (F.setting sink.new) }
-        ensures closed { result ≡ Look.Closed → (self.new.sources.items ≡ self.old.sources.items)
-            × IfSome (slice_get self.old.sources.items source)
-            (λ running. IsSome running.intake.close) }
+        ensures closed { WasClosed source self.old self.new result }
     {
-        let first = self.look_at(alloc, source, feed, sink);
+        let first = self.look_at(source, feed, sink);
         if first != Look::Moved {
             return first;
         }
         for taken in 1..VISIT {
-            if self.look_at(alloc, source, feed, sink) != Look::Moved {
+            if self.look_at(source, feed, sink) != Look::Moved {
                 self.took(source, taken);
                 return first;
             }
@@ -99,7 +82,7 @@ impl<R: RowReader, G: Gate> Collector<R, G> {
     }
 
     /// Visits every ring that is not closed.
-    fn look_round<S, F: Feed<S>>(&mut self, alloc: Global, feed: &mut F, sink: &mut S) -> Look
+    fn look_round<S, F: Feed<S>>(&mut self, feed: &mut F, sink: &mut S) -> Look
         ensures goes { GoesOn self.old self.new (F.taken sink.old) (F.taken sink.new)
             (F.setting sink.old) (F.setting sink.new) }
         ensures closed { result ≡ Look.Closed
@@ -110,7 +93,7 @@ impl<R: RowReader, G: Gate> Collector<R, G> {
         self.taken = 0;
         let mut round = Look::Closed;
         for source in 0..self.sources.len() {
-            let look = self.visit(alloc, source, feed, sink);
+            let look = self.visit(source, feed, sink);
             round = round.and(look);
         }
         round
@@ -120,7 +103,6 @@ impl<R: RowReader, G: Gate> Collector<R, G> {
     pub fn drain<W: Wait, S, F: Feed<S>>(
         &mut self,
         rt: &W,
-        alloc: Global,
         pause: Pause,
         feed: &mut F,
         sink: &mut S,
@@ -133,7 +115,7 @@ impl<R: RowReader, G: Gate> Collector<R, G> {
     {
         let mut pause = pause;
         for _ in rt.forever() {
-            match self.look_round(alloc, feed, sink) {
+            match self.look_round(feed, sink) {
                 Look::Closed => return,
                 Look::Idle | Look::Moved => (),
             }

@@ -50,8 +50,12 @@ pub fn collect_rows<
         (S.taken sink.old) (S.taken sink.new) result) }
     ensures setting { S.setting sink.new ≡ S.setting sink.old }
 {
-    let handover = Handover::in_batches(ring);
-    RingedReaders { readers, handover }.collect_by(rt, alloc, gate, &mut ByRows, sink)
+    let ringed = RingedReaders {
+        readers,
+        handover: Handover::in_batches(ring),
+        gate,
+    };
+    ringed.collect_by(rt, alloc, &mut ByRows { alloc }, sink)
 }
 
 /// Reads every source as `collect_rows` does and feeds the sink, but keeps no sample: its memory is for names and stacks, whatever
@@ -87,6 +91,10 @@ pub fn feed_rows<
         (λ endings. endings.items) result }
     ensures setting { S.setting sink.new ≡ S.setting sink.old }
 {
-    let handover = Handover::in_batches(ring);
-    RingedReaders { readers, handover }.feed_by(rt, alloc, gate, &mut WithEnds, sink)
+    let ringed = RingedReaders {
+        readers,
+        handover: Handover::in_batches(ring),
+        gate,
+    };
+    ringed.feed_by(rt, alloc, &mut WithEnds { alloc }, sink)
 }

@@ -4,7 +4,7 @@ ghost use Rattle.std.specs.Prelude.{◌≡◌, ◌≤◌, ◌<◌, ◌+◌, ◌+
 ghost use Rattle.sample_tables.specs.Rows.{name_at, named};
 ghost use Rattle.stack_core.specs.Records.{names_at};
 
-use crate::feeds::Feed;
+use crate::feeds::{ArrivedRow, Feed};
 use stack_core::{Ledger, Names, Sample, Sink, SourceEnd};
 use std::alloc::{AllocError, Global};
 use std::mem;
@@ -86,6 +86,7 @@ fn set_row(
 /// Hands a sink of samples one sample for all rows.
 #[derive(Drop)]
 pub struct BySamples {
+    alloc: Global,
     sample: Sample,
 }
 
@@ -93,6 +94,7 @@ impl BySamples {
     /// Nothing was handed out yet.
     pub fn new(alloc: Global) -> Self {
         BySamples {
+            alloc,
             sample: Sample {
                 stack: Names::of(Vec::new(alloc)),
                 weight: 0,
@@ -106,17 +108,10 @@ impl<S: Sink> Feed<S> for BySamples {
 
     ghost setting = { λ sink. record { numbers = S.setting sink; known = 0; heard = [] } };
 
-    fn feed(
-        &mut self,
-        alloc: Global,
-        sink: &mut S,
-        source: u32,
-        ledger: &Ledger,
-        row: usize,
-        weight: u64,
-    ) -> Result<(), AllocError> {
-        set_row(alloc, ledger, ledger.stack(row), weight, &mut self.sample)?;
-        sink.take(alloc, source, &self.sample)
+    fn feed(&mut self, sink: &mut S, row: ArrivedRow<'_>) -> Result<(), AllocError> {
+        let frames = row.ledger.stack(row.stack);
+        set_row(self.alloc, row.ledger, frames, row.weight, &mut self.sample)?;
+        sink.take(self.alloc, row.source, &self.sample)
     }
 
     fn end(&mut self, _sink: &mut S, _source: u32, _ending: &SourceEnd) {}

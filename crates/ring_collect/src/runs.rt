@@ -1,13 +1,12 @@
 //! A whole run: a reader thread and a bounded ring for each source, and the collecting thread that feeds the sink.
 
-ghost use Rattle.std.specs.Prelude.{All, None, Some, false, ◌≡◌, ◌≤◌, ◌++◌, ◌⊎◌, ℕ, [], IfOk, IsErrOf, IfErr, IsOk, length, map, true, vec_capacity};
+ghost use Rattle.std.specs.Prelude.{None, Some, false, ◌≡◌, ◌≤◌, ◌++◌, ◌⊎◌, ℕ, [], IfOk, IsErrOf, IfErr, IsOk, length, map, true, vec_capacity};
 ghost use Rattle.std.specs.Arc.{arc_value};
 ghost use Rattle.ring_collect.specs.Collection.{Answers, AnswersFeed, AnswersRun, GainsAllowed, GainsFirst, GiveSuch, HearsFirst, HearsSome, TellsEnds};
 ghost use Rattle.ring_collect.specs.checked.Ends.{HearsCloses, unheard};
-ghost use Rattle.ring_collect.specs.checked.WholeRuns.{HandsOut, IsUnfinished, RunsWhole};
+ghost use Rattle.ring_collect.specs.checked.WholeRuns.{CanRun, HandsOut, IsUnfinished, RunsWhole};
 ghost use Rattle.ring_collect.specs.checked.Settlement.{AreListsOf};
 ghost use Rattle.stack_core.specs.Ledgers.{IsRead};
-ghost use Rattle.stack_core.specs.RowReading.{GivesSome};
 
 use crate::batches::Handover;
 use crate::faults::CollectFault;
@@ -97,10 +96,7 @@ impl<R: RowReader + Send + Drop + 'static, G: Gate + Send + Sync + Drop + 'stati
         feed: &mut F,
         sink: &mut S,
     ) -> Result<Settled, CollectFault>
-        requires few { length readers.items ≤ 64 }
-        requires nothing_told { All (λ reader. R.told reader ≡ record { names = []; stacks = [] })
-            readers.items }
-        requires possible { All (λ reader. GivesSome (R.gives reader)) readers.items }
+        requires readers { CanRun R.told R.gives readers.items }
         requires rings { length self.rings.items ≡ length readers.items }
         requires sources { (self.sources.items ≡ [])
             × (length readers.items ≤ vec_capacity self.sources) }
@@ -143,7 +139,7 @@ impl<R: RowReader + Send + Drop + 'static, G: Gate + Send + Sync + Drop + 'stati
             refused,
             taken: 0,
         };
-        collector.drain(rt, alloc, pause, feed, sink);
+        collector.drain(rt, pause, feed, sink);
         let Collector {
             sources,
             order,
@@ -161,44 +157,43 @@ impl<R: RowReader + Send + Drop + 'static, G: Gate + Send + Sync + Drop + 'stati
     }
 }
 
-/// Readers, and how their records are handed over.
+/// Readers, how their records are handed over, and the gate that they ask.
 #[derive(Drop)]
-pub struct RingedReaders<R: RowReader> {
+pub struct RingedReaders<R: RowReader, G: Gate> {
     pub readers: Vec<R>,
     pub handover: Handover,
+    pub gate: Arc<G>,
 }
 
-impl<R: RowReader + Send + Drop + 'static> RingedReaders<R> {
+impl<R: RowReader + Send + Drop + 'static, G: Gate + Send + Sync + Drop + 'static> RingedReaders<
+    R,
+    G,
+> {
     /// Feeds a sink with the rows of the readers, and collects them where samples are kept.
-    fn run_by<
-        T: Threads + Wait + Copy + Send + 'static,
-        G: Gate + Send + Sync + Drop + 'static,
-        S,
-        F: Feed<S>,
-    >(
+    fn run_by<T: Threads + Wait + Copy + Send + 'static, S, F: Feed<S>>(
         self,
         rt: &T,
         alloc: Global,
-        gate: Arc<G>,
         keeps: bool,
         feed: &mut F,
         sink: &mut S,
     ) -> Result<Collected, CollectFault>
-        requires few { length self.readers.items ≤ 64 }
-        requires nothing_told { All (λ reader. R.told reader ≡ record { names = []; stacks = [] })
-            self.readers.items }
-        requires possible { All (λ reader. GivesSome (R.gives reader)) self.readers.items }
+        requires { CanRun R.told R.gives self.readers.items }
         ensures answer { GiveSuch (λ reader. R.gives reader) self.readers.items (λ rests.
-            Answers (λ run. HandsOut keeps (G.may_stop (arc_value gate)) (G.may_go (arc_value gate))
+            Answers (λ run. HandsOut keeps (G.may_stop (arc_value self.gate)) (G.may_go (arc_value self.gate))
             rests (F.taken sink.old) (F.taken sink.new) run.lists.items run.order.items)
-            (G.may_go (arc_value gate)) rests (F.taken sink.old) (F.taken sink.new) result) }
+            (G.may_go (arc_value self.gate)) rests (F.taken sink.old) (F.taken sink.new) result) }
         ensures ends { length self.readers.items ≤ (F.setting sink.old).known
-            → TellsEnds (λ reader. R.gives reader) (G.may_stop (arc_value gate)) (G.may_go (arc_value gate))
+            → TellsEnds (λ reader. R.gives reader) (G.may_stop (arc_value self.gate)) (G.may_go (arc_value self.gate))
             self.readers.items (F.taken sink.old) (F.taken sink.new)
             (F.setting sink.old).heard (F.setting sink.new).heard (λ run. map (λ list. list.ending) run.lists.items) result }
         ensures setting { unheard (F.setting sink.new) ≡ unheard (F.setting sink.old) }
     {
-        let RingedReaders { readers, handover } = self;
+        let RingedReaders {
+            readers,
+            handover,
+            gate,
+        } = self;
         let room = Room::new(alloc, readers.len(), handover, keeps)?;
         let run = room.run_sources(rt, alloc, readers, &gate, feed, sink)?;
         let lists = lists_of(alloc, run.ledgers)?;
@@ -212,59 +207,41 @@ impl<R: RowReader + Send + Drop + 'static> RingedReaders<R> {
     }
 
     /// Collects the rows of the readers, and feeds a sink with them.
-    pub fn collect_by<
-        T: Threads + Wait + Copy + Send + 'static,
-        G: Gate + Send + Sync + Drop + 'static,
-        S,
-        F: Feed<S>,
-    >(
+    pub fn collect_by<T: Threads + Wait + Copy + Send + 'static, S, F: Feed<S>>(
         self,
         rt: &T,
         alloc: Global,
-        gate: Arc<G>,
         feed: &mut F,
         sink: &mut S,
     ) -> Result<Collected, CollectFault>
-        requires few { length self.readers.items ≤ 64 }
-        requires nothing_told { All (λ reader. R.told reader ≡ record { names = []; stacks = [] })
-            self.readers.items }
-        requires possible { All (λ reader. GivesSome (R.gives reader)) self.readers.items }
+        requires { CanRun R.told R.gives self.readers.items }
         ensures answer { GiveSuch (λ reader. R.gives reader) self.readers.items (λ rests.
-            AnswersRun (G.may_stop (arc_value gate)) (G.may_go (arc_value gate)) rests
+            AnswersRun (G.may_stop (arc_value self.gate)) (G.may_go (arc_value self.gate)) rests
             (F.taken sink.old) (F.taken sink.new) result) }
         ensures setting { unheard (F.setting sink.new) ≡ unheard (F.setting sink.old) }
     {
-        self.run_by(rt, alloc, gate, true, feed, sink)
+        self.run_by(rt, alloc, true, feed, sink)
     }
 
     /// Feeds a sink with the rows of the readers, and answers how they ended.
-    pub fn feed_by<
-        T: Threads + Wait + Copy + Send + 'static,
-        G: Gate + Send + Sync + Drop + 'static,
-        S,
-        F: Feed<S>,
-    >(
+    pub fn feed_by<T: Threads + Wait + Copy + Send + 'static, S, F: Feed<S>>(
         self,
         rt: &T,
         alloc: Global,
-        gate: Arc<G>,
         feed: &mut F,
         sink: &mut S,
     ) -> Result<Vec<SourceEnd>, CollectFault>
-        requires few { length self.readers.items ≤ 64 }
-        requires nothing_told { All (λ reader. R.told reader ≡ record { names = []; stacks = [] })
-            self.readers.items }
-        requires possible { All (λ reader. GivesSome (R.gives reader)) self.readers.items }
+        requires { CanRun R.told R.gives self.readers.items }
         ensures answer { GiveSuch (λ reader. R.gives reader) self.readers.items (λ rests.
-            AnswersFeed (G.may_stop (arc_value gate)) (G.may_go (arc_value gate)) rests
+            AnswersFeed (G.may_stop (arc_value self.gate)) (G.may_go (arc_value self.gate)) rests
             (F.taken sink.old) (F.taken sink.new) result) }
         ensures ends { length self.readers.items ≤ (F.setting sink.old).known
-            → TellsEnds (λ reader. R.gives reader) (G.may_stop (arc_value gate)) (G.may_go (arc_value gate))
+            → TellsEnds (λ reader. R.gives reader) (G.may_stop (arc_value self.gate)) (G.may_go (arc_value self.gate))
             self.readers.items (F.taken sink.old) (F.taken sink.new)
             (F.setting sink.old).heard (F.setting sink.new).heard (λ endings. endings.items) result }
         ensures setting { unheard (F.setting sink.new) ≡ unheard (F.setting sink.old) }
     {
-        let run = self.run_by(rt, alloc, gate, false, feed, sink)?;
+        let run = self.run_by(rt, alloc, false, feed, sink)?;
         Ok(endings_of(alloc, run.lists)?)
     }
 }

@@ -90,7 +90,10 @@ pub fn collect<
     ensures setting { S.setting sink.new ≡ S.setting sink.old }
 {
     let readers = number_all(alloc, readers)?;
-    let handover = Handover::one_by_one(ring);
-    let mut feed = BySamples::new(alloc);
-    RingedReaders { readers, handover }.collect_by(rt, alloc, gate, &mut feed, sink)
+    let ringed = RingedReaders {
+        readers,
+        handover: Handover::one_by_one(ring),
+        gate,
+    };
+    ringed.collect_by(rt, alloc, &mut BySamples::new(alloc), sink)
 }

@@ -6,6 +6,7 @@ pub mod Inputs
 pub mod Joining
 pub mod KeptStacks
 pub mod OpenRuns
+pub mod PartRuns
 pub mod Parts
 pub mod Readers
 pub mod StoredProfiles

@@ -20,6 +20,7 @@ mod part_runs;
 mod reader_runs;
 mod reading;
 mod run_faults;
+mod runners;
 mod source_lists;
 mod source_reader;
 mod source_readers;

@@ -4,18 +4,18 @@
 ghost use Rattle.std.specs.Prelude.{◌≡◌, ◌≤◌, [], All, IfErr, IfOk, length, map};
 ghost use Rattle.std.specs.Arc.{arc_value};
 ghost use Rattle.stack_core.specs.Interleaving.{IsInterleaving};
-ghost use Rattle.stack_core.specs.RowReading.{GivesSome};
 ghost use Rattle.merged_stacks.specs.Timeline.{samples_of};
 ghost use Rattle.ring_collect.specs.Collection.{AreGiven, seen_as_rest};
+ghost use Rattle.ring_collect.specs.checked.WholeRuns.{CanRun};
 ghost use Rattle.source_lists.specs.Runs.{ReadsLists};
 ghost use Rattle.source_lists.specs.checked.OpenRuns.{IsOfReaders};
 ghost use Rattle.source_lists.specs.checked.Readers.{filtered_rest, reader_rest, reader_told};
 
 use crate::filtered_reader::FilteredReader;
+use crate::runners::Runner;
 use crate::source_reader::SourceReader;
 use crate::unkept_samples::UnkeptSamples;
 use ring_collect::{CollectFault, Collected, collect, collect_rows};
-use run_options::RingSize;
 use stack_core::{Gate, NamingReader, OpenGate, RowReader, RowSink};
 use std::alloc::{AllocError, Global};
 use std::sync::{Arc, Wait};
@@ -25,74 +25,58 @@ fn open_gate(alloc: Global) -> Result<Arc<OpenGate>, AllocError> {
     Ok(Arc::new(alloc, OpenGate)?)
 }
 
-/// Collects what the readers tell, by rows, where no gate is asked: each list is what its reader may give.
-pub(crate) fn run_open<
-    T: Threads + Wait + Copy + Send + 'static,
-    R: RowReader + Send + Drop + 'static,
-    S: RowSink,
->(
-    rt: &T,
-    alloc: Global,
-    readers: Vec<R>,
-    ring: RingSize,
-    sink: &mut S,
-) -> Result<Collected, CollectFault>
-    requires few { length readers.items ≤ 64 }
-    requires told { All (λ reader. R.told reader ≡ record { names = []; stacks = [] })
-        readers.items }
-    requires possible { All (λ reader. GivesSome (R.gives reader)) readers.items }
-    ensures given { IfOk result (λ run. AreGiven (λ reader. R.gives reader) readers.items
-        (map seen_as_rest run.lists.items)) }
-    ensures ordered { IfOk result (λ run.
-        IsInterleaving run.order.items (samples_of run.lists.items)) }
-    ensures err { IfErr result (IsOfReaders (length readers.items)) }
-    ensures setting { S.setting sink.new ≡ S.setting sink.old }
-{
-    let gate = open_gate(alloc)?;
-    collect_rows(rt, alloc, readers, ring, gate, sink)
-}
+impl<T: Threads + Wait + Copy + Send + 'static> Runner<'_, T> {
+    /// Collects what the readers tell, by rows, where no gate is asked: each list is what its reader may give.
+    pub(crate) fn run_open<R: RowReader + Send + Drop + 'static, S: RowSink>(
+        &self,
+        readers: Vec<R>,
+        sink: &mut S,
+    ) -> Result<Collected, CollectFault>
+        requires { CanRun R.told R.gives readers.items }
+        ensures given { IfOk result (λ run. AreGiven (λ reader. R.gives reader) readers.items
+            (map seen_as_rest run.lists.items)) }
+        ensures ordered { IfOk result (λ run.
+            IsInterleaving run.order.items (samples_of run.lists.items)) }
+        ensures err { IfErr result (IsOfReaders (length readers.items)) }
+        ensures setting { S.setting sink.new ≡ S.setting sink.old }
+    {
+        let gate = open_gate(self.alloc)?;
+        collect_rows(self.rt, self.alloc, readers, self.options.ring, gate, sink)
+    }
 
-/// Collects what the readers tell, by rows, as far as a gate lets them.
-pub(crate) fn run_rows<
-    T: Threads + Wait + Copy + Send + 'static,
-    G: Gate + Send + Sync + Drop + 'static,
-    S: RowSink,
->(
-    rt: &T,
-    alloc: Global,
-    readers: Vec<SourceReader>,
-    ring: RingSize,
-    gate: Arc<G>,
-    sink: &mut S,
-) -> Result<Collected, CollectFault>
-    requires few { length readers.items ≤ 64 }
-    requires told { All (λ reader. reader_told reader ≡ record { names = []; stacks = [] })
-        readers.items }
-    ensures reads { IfOk result (λ run.
-        ReadsLists (G.may_stop (arc_value gate)) (G.may_go (arc_value gate))
-        (map reader_rest readers.items) run.lists.items run.order.items) }
-    ensures err { IfErr result (IsOfReaders (length readers.items)) }
-    ensures setting { S.setting sink.new ≡ S.setting sink.old }
-{
-    collect_rows(rt, alloc, readers, ring, gate, sink)
-}
+    /// Collects what the readers tell, by rows, as far as a gate lets them.
+    pub(crate) fn run_rows<G: Gate + Send + Sync + Drop + 'static, S: RowSink>(
+        &self,
+        readers: Vec<SourceReader>,
+        gate: Arc<G>,
+        sink: &mut S,
+    ) -> Result<Collected, CollectFault>
+        requires few { length readers.items ≤ 64 }
+        requires told { All (λ reader. reader_told reader ≡ record { names = []; stacks = [] })
+            readers.items }
+        ensures reads { IfOk result (λ run.
+            ReadsLists (G.may_stop (arc_value gate)) (G.may_go (arc_value gate))
+            (map reader_rest readers.items) run.lists.items run.order.items) }
+        ensures err { IfErr result (IsOfReaders (length readers.items)) }
+        ensures setting { S.setting sink.new ≡ S.setting sink.old }
+    {
+        collect_rows(self.rt, self.alloc, readers, self.options.ring, gate, sink)
+    }
 
-/// Collects the samples of the readers that leave some out, where nothing looks on.
-pub(crate) fn run_filtered<
-    T: Threads + Wait + Copy + Send + 'static,
-    G: Gate + Send + Sync + Drop + 'static,
->(
-    rt: &T,
-    alloc: Global,
-    readers: Vec<FilteredReader<NamingReader<SourceReader>>>,
-    ring: RingSize,
-    gate: Arc<G>,
-) -> Result<Collected, CollectFault>
-    requires { length readers.items ≤ 64 }
-    ensures reads { IfOk result (λ run.
-        ReadsLists (G.may_stop (arc_value gate)) (G.may_go (arc_value gate))
-        (map filtered_rest readers.items) run.lists.items run.order.items) }
-    ensures err { IfErr result (IsOfReaders (length readers.items)) }
-{
-    collect(rt, alloc, readers, ring, gate, &mut UnkeptSamples::new())
+    /// Collects the samples of the readers that leave some out, where nothing looks on.
+    pub(crate) fn run_filtered<G: Gate + Send + Sync + Drop + 'static>(
+        &self,
+        readers: Vec<FilteredReader<NamingReader<SourceReader>>>,
+        gate: Arc<G>,
+    ) -> Result<Collected, CollectFault>
+        requires { length readers.items ≤ 64 }
+        ensures reads { IfOk result (λ run.
+            ReadsLists (G.may_stop (arc_value gate)) (G.may_go (arc_value gate))
+            (map filtered_rest readers.items) run.lists.items run.order.items) }
+        ensures err { IfErr result (IsOfReaders (length readers.items)) }
+    {
+        let ring = self.options.ring;
+        let mut sink = UnkeptSamples::new();
+        collect(self.rt, self.alloc, readers, ring, gate, &mut sink)
+    }
 }

@@ -15,9 +15,8 @@ ghost use Rattle.source_lists.specs.checked.OpenRuns.{IsOfReaders, IsOfRun};
 use crate::gating::Gating;
 use crate::inputs::Input;
 use crate::loaded_sources::LoadedSource;
-use crate::open_runs::collect_all;
-use crate::reader_runs::{run_filtered, run_rows};
-use crate::run_faults::RunFault;
+use crate::run_faults::{RunFault, RunResult};
+use crate::runners::Runner;
 use crate::source_lists::SourceLists;
 use crate::source_readers::{filtered_readers_of, readers_of};
 use ring_collect::{CollectFault, Collected};
@@ -36,37 +35,6 @@ pub struct Run {
     pub whole_weight: Option<u64>,
 }
 
-/// Collects what the options ask for of the sources: by rows, or, where a filter leaves samples out, by samples, since a gate is asked
-/// for those alone that are kept.
-fn collect_asked<
-    T: Threads + Wait + Copy + Send + 'static,
-    G: Gate + Send + Sync + Drop + 'static,
-    S: RowSink,
->(
-    rt: &T,
-    alloc: Global,
-    sources: Vec<LoadedSource>,
-    options: &Options,
-    gate: Arc<G>,
-    sink: &mut S,
-) -> Result<Collected, CollectFault>
-    requires { length sources.items ≤ 64 }
-    ensures reads { IfOk result (λ run.
-        ReadsLists (G.may_stop (arc_value gate)) (G.may_go (arc_value gate))
-        (asked_rests options.now sources.items) run.lists.items run.order.items) }
-    ensures limits { IfOk result (λ run. AreLimited run.lists.items) }
-    ensures err { IfErr result (IsOfReaders (length sources.items)) }
-    ensures setting { S.setting sink.new ≡ S.setting sink.old }
-{
-    if options.filter.is_everything() {
-        let readers = readers_of(alloc, sources, options)?;
-        run_rows(rt, alloc, readers, options.ring, gate, sink)
-    } else {
-        let readers = filtered_readers_of(alloc, sources, options)?;
-        run_filtered(rt, alloc, readers, options.ring, gate)
-    }
-}
-
 /// What the filter of the options keeps of a run in which each source was read to its end.
 fn kept_run(alloc: Global, whole: SourceLists, options: &Options) -> Result<Run, AllocError>
     ensures lists { IfOk result (λ run. map seen_as_rest run.kept.lists
@@ -81,60 +49,75 @@ fn kept_run(alloc: Global, whole: SourceLists, options: &Options) -> Result<Run,
     Ok(Run { kept, whole_weight })
 }
 
-fn read_open<T: Threads + Wait + Copy + Send + 'static, S: RowSink>(
-    rt: &T,
-    alloc: Global,
-    inputs: Vec<Input>,
-    options: &Options,
-    sink: &mut S,
-) -> Result<Run, RunFault>
-    requires { length inputs.items ≤ 64 }
-    ensures reads { IfOk result (λ run. IfSome (known_inputs inputs.items) (λ sources.
-        ReadsLists (λ _ _. ⊥) (λ _ _. Unit {0}) (asked_rests options.now sources)
-        run.kept.lists run.kept.order)) }
-    ensures weight { IfOk result (λ run. IfSome (known_inputs inputs.items) (λ sources.
-        run.whole_weight ≡ Some (whole_weight options.now sources))) }
-    ensures weighed { IfOk result (λ run. IsSome run.whole_weight) }
-    ensures count { IfOk result (λ run. length run.kept.lists ≡ length inputs.items) }
-    ensures ordered { IfOk result (λ run.
-        IsInterleaving run.kept.order (samples_of run.kept.lists)) }
-    ensures unstopped { IfOk result (λ run. All IsReadOut run.kept.lists) }
-    ensures err { IfErr result (IsOfRun (length inputs.items)) }
-    ensures setting { S.setting sink.new ≡ S.setting sink.old }
-{
-    let whole = collect_all(rt, alloc, inputs, options, sink)?;
-    Ok(kept_run(alloc, whole, options)?)
-}
+impl<T: Threads + Wait + Copy + Send + 'static> Runner<'_, T> {
+    /// Collects what the options ask for of the sources: by rows, or, where a filter leaves samples out, by samples, since a gate is asked
+    /// for those alone that are kept.
+    fn collect_asked<G: Gate + Send + Sync + Drop + 'static, S: RowSink>(
+        &self,
+        sources: Vec<LoadedSource>,
+        gate: Arc<G>,
+        sink: &mut S,
+    ) -> Result<Collected, CollectFault>
+        requires { length sources.items ≤ 64 }
+        ensures reads { IfOk result (λ run.
+            ReadsLists (G.may_stop (arc_value gate)) (G.may_go (arc_value gate))
+            (asked_rests self.now.options.now sources.items) run.lists.items run.order.items) }
+        ensures limits { IfOk result (λ run. AreLimited run.lists.items) }
+        ensures err { IfErr result (IsOfReaders (length sources.items)) }
+        ensures setting { S.setting sink.new ≡ S.setting sink.old }
+    {
+        if self.options.filter.is_everything() {
+            let readers = readers_of(self.alloc, sources, self.options)?;
+            self.run_rows(readers, gate, sink)
+        } else {
+            let readers = filtered_readers_of(self.alloc, sources, self.options)?;
+            self.run_filtered(readers, gate)
+        }
+    }
 
-/// Reads sources as far as a gate lets them. Texts are loaded before.
-fn read_asked<
-    T: Threads + Wait + Copy + Send + 'static,
-    G: Gate + Send + Sync + Drop + 'static,
-    S: RowSink,
->(
-    rt: &T,
-    alloc: Global,
-    inputs: Vec<Input>,
-    options: &Options,
-    gate: Arc<G>,
-    sink: &mut S,
-) -> Result<Run, RunFault>
-    requires { length inputs.items ≤ 64 }
-    ensures reads { IfOk result (λ run. IfSome (known_inputs inputs.items) (λ sources.
-        ReadsLists (G.may_stop (arc_value gate)) (G.may_go (arc_value gate))
-        (asked_rests options.now sources) run.kept.lists run.kept.order)) }
-    ensures count { IfOk result (λ run. length run.kept.lists ≡ length inputs.items) }
-    ensures ordered { IfOk result (λ run.
-        IsInterleaving run.kept.order (samples_of run.kept.lists)) }
-    ensures err { IfErr result (IsOfRun (length inputs.items)) }
-    ensures setting { S.setting sink.new ≡ S.setting sink.old }
-{
-    let sources = Input::load_all(alloc, inputs)?;
-    let kept = SourceLists::of(collect_asked(rt, alloc, sources, options, gate, sink)?);
-    Ok(Run {
-        kept,
-        whole_weight: None,
-    })
+    fn read_open<S: RowSink>(&self, inputs: Vec<Input>, sink: &mut S) -> RunResult<Run>
+        requires { length inputs.items ≤ 64 }
+        ensures reads { IfOk result (λ run. IfSome (known_inputs inputs.items) (λ sources.
+            ReadsLists (λ _ _. ⊥) (λ _ _. Unit {0}) (asked_rests self.now.options.now sources)
+            run.kept.lists run.kept.order)) }
+        ensures weight { IfOk result (λ run. IfSome (known_inputs inputs.items) (λ sources.
+            run.whole_weight ≡ Some (whole_weight self.now.options.now sources))) }
+        ensures weighed { IfOk result (λ run. IsSome run.whole_weight) }
+        ensures count { IfOk result (λ run. length run.kept.lists ≡ length inputs.items) }
+        ensures ordered { IfOk result (λ run.
+            IsInterleaving run.kept.order (samples_of run.kept.lists)) }
+        ensures unstopped { IfOk result (λ run. All IsReadOut run.kept.lists) }
+        ensures err { IfErr result (IsOfRun (length inputs.items)) }
+        ensures setting { S.setting sink.new ≡ S.setting sink.old }
+    {
+        let whole = self.collect_all(inputs, sink)?;
+        Ok(kept_run(self.alloc, whole, self.options)?)
+    }
+
+    /// Reads sources as far as a gate lets them. Texts are loaded before.
+    fn read_asked<G: Gate + Send + Sync + Drop + 'static, S: RowSink>(
+        &self,
+        inputs: Vec<Input>,
+        gate: Arc<G>,
+        sink: &mut S,
+    ) -> RunResult<Run>
+        requires { length inputs.items ≤ 64 }
+        ensures reads { IfOk result (λ run. IfSome (known_inputs inputs.items) (λ sources.
+            ReadsLists (G.may_stop (arc_value gate)) (G.may_go (arc_value gate))
+            (asked_rests self.now.options.now sources) run.kept.lists run.kept.order)) }
+        ensures count { IfOk result (λ run. length run.kept.lists ≡ length inputs.items) }
+        ensures ordered { IfOk result (λ run.
+            IsInterleaving run.kept.order (samples_of run.kept.lists)) }
+        ensures err { IfErr result (IsOfRun (length inputs.items)) }
+        ensures setting { S.setting sink.new ≡ S.setting sink.old }
+    {
+        let sources = Input::load_all(self.alloc, inputs)?;
+        let kept = SourceLists::of(self.collect_asked(sources, gate, sink)?);
+        Ok(Run {
+            kept,
+            whole_weight: None,
+        })
+    }
 }
 
 /// Reads and collects sources at the same time, each in a thread of its own and through a ring of its own: the lists of the samples that
@@ -186,8 +169,9 @@ pub fn read<
         → source < length inputs.items }
     ensures setting { S.setting sink.new ≡ S.setting sink.old }
 {
+    let runner = Runner { rt, alloc, options };
     match gating {
-        Gating::Open => read_open(rt, alloc, inputs, options, sink),
-        Gating::Asked(gate) => read_asked(rt, alloc, inputs, options, gate, sink),
+        Gating::Open => runner.read_open(inputs, sink),
+        Gating::Asked(gate) => runner.read_asked(inputs, gate, sink),
     }
 }

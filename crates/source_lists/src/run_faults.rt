@@ -16,6 +16,8 @@ pub enum RunFault {
     Unreadable { source: usize },
 }
 
+pub(crate) type RunResult<V> = Result<V, RunFault>;
+
 impl From<CollectFault> for RunFault {
     ghost from_gives = { λ fault found. found ≡ IsCollect fault };
 

@@ -4,8 +4,9 @@ use Rattle.stack_core.specs.declared.endings.ReadKind.{ReadKind}
 use Rattle.wire_fields.specs.Field.{WireValue}
 use Rattle.profile_messages.specs.declared.messages.Line.{Line}
 use Rattle.profile_messages.specs.declared.messages.Location.{Location as CodeLocation}
+use Rattle.profile_messages.specs.declared.messages.Scalars.{Scalars}
 use Rattle.profile_messages.specs.Message.{first, varint_in, bytes_in, scalar}
-use Rattle.profile_messages.specs.Shapes.{Shape, scalar_shape, content_shape, faults_of_value, faults_in, line_shape, location_shape}
+use Rattle.profile_messages.specs.Shapes.{Shape, scalar_shape, content_shape, faults_of_value, faults_in, line_shape, location_shape, scalars_shape}
 use Rattle.profile_messages.specs.Records.{line_in, lines_in}
 
 -- a scalar has the value of one more of its fields, where that is none of a fault
@@ -16,6 +17,17 @@ pub record IsScalarSet (value : WireValue) (old new : ℕ) (fault : Option ReadK
 abbrev pub IsDecoded : {A : Type 0} → (ℕ → Shape) → (List ℕ → A) → List ℕ → Result A ReadKind → Type 0
 IsDecoded shape decoded message (Ok found) = (first (faults_in shape message) ≡ None) × (found ≡ decoded message)
 IsDecoded shape decoded message (Err kind) = first (faults_in shape message) ≡ Some kind
+
+-- what two or three scalars of a message are, where the message has no fault
+pub record IsEachScalar (most : ℕ) (message : List ℕ) (scalars : Scalars) : Type 0 where
+  pub faultless : first (faults_in (scalars_shape most) message) ≡ None
+  pub first_is : scalars.first ≡ scalar 1 message
+  pub second_is : scalars.second ≡ scalar 2 message
+  pub third_is : most ≡ 3 → scalars.third ≡ scalar 3 message
+
+abbrev pub AreScalars : ℕ → List ℕ → Result Scalars ReadKind → Type 0
+AreScalars most message (Ok scalars) = IsEachScalar most message scalars
+AreScalars most message (Err kind) = first (faults_in (scalars_shape most) message) ≡ Some kind
 
 -- the lines have one more, which a field holds, where that has no fault
 pub record IsLineAppended (value : WireValue) (old new : List Line) (fault : Option ReadKind) : Type 0 where

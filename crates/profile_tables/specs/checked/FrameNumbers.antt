@@ -1,6 +1,6 @@
 -- The numbers of frames' names.
-use Rattle.std.specs.Prelude.{◌≡◌, ◌<◌, ◌≤◌, ◌+◌, ℕ, List, [], length, map, reverse, All, Option, Some, None, slice_get, slice_index_or, slice_range}
-use Rattle.stack_core.specs.NamesInOrder.{with_stack}
+use Rattle.std.specs.Prelude.{◌≡◌, ◌<◌, ◌≤◌, ◌+◌, ℕ, List, [], length, map, reverse, All, Option, Some, None, Result, IfOk, OnOk, OnErr, slice_get, slice_index_or, slice_range}
+use Rattle.stack_core.specs.NamesInOrder.{with_name, with_stack}
 use Rattle.stack_core.specs.Records.{names_at}
 use Rattle.profile_tables.specs.declared.frame_numbers.FrameNumbers.{FrameNumbers}
 use Rattle.profile_tables.specs.declared.frames.Frames.{Frames}
@@ -33,6 +33,14 @@ AreKept texts names kept =
 pub record AreNumbersOf (all : Frames) (numbers : FrameNumbers) : Type 0 where
   pub frames : AreKept (text_at all) numbers.table numbers.frames.numbers.items
   pub names : AreKept (name_in_place all) numbers.table numbers.names.numbers.items
+
+-- the name was looked up, by the numbers that are kept of names
+pub record IsLookUp {E : Type 0} (all : Frames) (name : List ℕ) (old new : FrameNumbers) (result : Result ℕ E) : Type 0 where
+  pub known : AreKept (name_in_place all) new.table new.names.numbers.items
+  pub names : OnOk result (new.table ≡ with_name old.table name)
+  pub number : IfOk result (λ number. slice_get new.table number ≡ Some name)
+  pub frames : new.frames ≡ old.frames
+  pub refused : OnErr result (new ≡ old)
 
 -- the row has the numbers of a stack's names, which the table has behind the names before
 pub record IsNumbered (before stack names : List (List ℕ)) (row : List ℕ) : Type 0 where

@@ -1,10 +1,12 @@
 -- What the sink gained while the collecting thread looked into the rings: checked, not to be believed.
-use Rattle.std.specs.Prelude.{◌≡◌, ◌≢◌, ◌≤◌, ◌++◌, ℕ, List, length, map, Bool, false, true, Some, slice_get}
+use Rattle.std.specs.Prelude.{◌≡◌, ◌≢◌, ◌≤◌, ◌++◌, ℕ, List, length, map, Bool, false, true, IfSome, IsSome, Some, slice_get}
 use Rattle.stack_core.specs.Interleaving.{AreOf, list_of, sources_of}
 use Rattle.sample_tables.specs.declared.samples.Sample.{Sample}
 use Rattle.ring_collect.specs.checked.Ends.{HasHeard, Held, Kept, held, unheard}
 use Rattle.ring_collect.specs.checked.Intakes.{Tracks}
 use Rattle.ring_collect.specs.declared.intakes.Intake.{Intake}
+use Rattle.ring_collect.specs.declared.intakes.Look.{Look}
+use Rattle.ring_collect.specs.declared.intakes.Look.TheVariants.{Closed}
 use Rattle.ring_collect.specs.declared.intakes.Stage.TheVariants.{Dropping}
 use Rattle.ring_collect.specs.declared.rounds.Collector.{Collector}
 
@@ -34,3 +36,7 @@ pub record GoesOn {R G : Type 0} (old new : Collector R G) (taken taken' : List 
       → HasGained keeps start (map (λ running. running.intake) new.sources.items) (held taken' kept') new.order.items new.refused
   pub refused : new.refused ≡ false → old.refused ≡ false
   pub setting : unheard kept' ≡ unheard kept
+
+-- where a look at the ring of a source says that it is closed, it was so before, and the sources are the same
+abbrev pub WasClosed : {R G : Type 0} → ℕ → Collector R G → Collector R G → Look → Type 0
+WasClosed source old new look = look ≡ Closed → (new.sources.items ≡ old.sources.items) × IfSome (slice_get old.sources.items source) (λ running. IsSome running.intake.close)

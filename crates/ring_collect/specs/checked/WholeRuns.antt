@@ -1,13 +1,21 @@
 -- A run that took all: checked, not to be believed.
-use Rattle.std.specs.Prelude.{◌≡◌, ◌++◌, ℕ, Bool, true, List, length, map, Some, slice_get}
+use Rattle.std.specs.Prelude.{◌≡◌, ◌≤◌, ◌++◌, ℕ, Bool, true, List, [], All, length, map, Some, slice_get}
 use Rattle.stack_core.specs.Reading.{Rest}
+use Rattle.stack_core.specs.RowReading.{GivesSome}
 use Rattle.stack_core.specs.Ledgers.{LedgerState, ListState}
 use Rattle.stack_core.specs.Interleaving.{AreOf, list_of, sources_of}
+use Rattle.sample_tables.specs.Rows.{ToldRows}
 use Rattle.sample_tables.specs.declared.samples.Sample.{Sample}
 use Rattle.ring_collect.specs.Collection.{CollectsRun, FeedsRun, GainsAllowed, GainsFirst, Unfinishes}
 use Rattle.ring_collect.specs.checked.Settlement.{IsAllTold}
 use Rattle.ring_collect.specs.declared.faults.CollectFault.{CollectFault}
 use Rattle.ring_collect.specs.declared.faults.CollectFault.TheVariants.{OutOfMemory, NoThread, Unfinished}
+
+-- readers of a run: few, of which none has told anything, and each may give a rest
+pub record CanRun {R : Type 0} (told : R → ToldRows) (gives : R → Rest → Type 0) (readers : List R) : Type 0 where
+  pub few : length readers ≤ 64
+  pub nothing_told : All (λ reader. told reader ≡ record { names = []; stacks = [] }) readers
+  pub possible : All (λ reader. GivesSome (gives reader)) readers
 
 -- the ledger of each source is all that was told there, and the sink gained the same samples, in this order, if samples are kept
 pub record RunsWhole (keeps : Bool) (may_stop may_go : ℕ → ℕ → Type 0) (rests : List Rest) (ledgers : List LedgerState) (order : List ℕ) (taken taken' : List (ℕ × Sample)) : Type 0 where

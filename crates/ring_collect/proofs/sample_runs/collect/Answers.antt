@@ -1,4 +1,4 @@
-use Rattle.std.proofs.Common.{◌≡◌, ◌≤◌, ◌∙◌, List, refl, sym, ap, subst, length, get_or}
+use Rattle.std.proofs.Common.{◌≡◌, List, refl, ap, subst}
 use Rattle.std.proofs.lemmas.List.{length-map}
 use Rattle.std.proofs.lemmas.Result.{IfOk-from_err, IfOk-weaker}
 use Rattle.std.specs.Arc.{arc_value}
@@ -47,17 +47,3 @@ returns g c =
       unfinished = λ source fault. subst (λ n. Unfinishes n source taken taken') (length-map c.args.readers.items g.R.SampleReader.rest) (answer.unfinished source fault);
       setting = ap (λ kept. kept.numbers) c.collect_by.ensures.setting;
     }
-
-pub collect_by-requires-clause-few : goal.collect_by-requires-clause-few
-collect_by-requires-clause-few g c = λ κs within.
-    let count = sym (length-map _ _) ∙ ap length c.in_ok-readers.ensures.rests ∙ length-map c.args.readers.items g.R.SampleReader.rest in
-    subst (λ n. n ≤ 64) (sym count) c.requires
-
-pub collect_by-requires-clause-nothing_told : goal.collect_by-requires-clause-nothing_told
-collect_by-requires-clause-nothing_told g c = λ κs within. c.in_ok-readers.ensures.nothing_told
-
--- a reader that numbers a reader's samples gives their rest
-pub collect_by-requires-clause-possible : goal.collect_by-requires-clause-possible
-collect_by-requires-clause-possible g c = λ κs within. λ source one below.
-    let numbering = get_or c.in_ok-readers.readers.items source one in
-    record { rest = with_waiting numbering.waiting (g.R.SampleReader.rest numbering.reader); is_given = refl }

@@ -21,7 +21,7 @@ returns-clause-gains g c =
     let promised = promised g c in
     let settled = c.in_default-settle_all.ensures.settled in
     let gained = gained g c in
-    let chosen = rests_of promised settled gained c.requires.possible in
+    let chosen = rests_of promised settled gained c.requires.readers.possible in
     record {
       rests = chosen.rests;
       are_given = chosen.are_given;
@@ -85,7 +85,7 @@ returns-clause-setting g c = c.drain.ensures.goes.setting
 
 pub settle_all-requires : goal.settle_all-requires
 settle_all-requires g c =
-    let few = c.requires.few in
+    let few = c.requires.readers.few in
     let room = c.requires.ledgers.1 in
     let started = as_many c.start_all-started.new.sources.items c.drain.new.self.sources.items c.drain.ensures.goes.handles in
     let promised = c.start_all-started.ensures.promised.no_more in

@@ -46,7 +46,7 @@ returns-in_err-endings_of g c =
 pub returns : goal.returns
 returns g c =
     let given = c.in_ok-run.ensures.answer in
-    let gate = arc_value c.args.gate in
+    let gate = arc_value c.args.self.gate in
     record {
       answer = record {
         rests = given.rests;

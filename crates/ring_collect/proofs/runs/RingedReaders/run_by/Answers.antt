@@ -16,7 +16,7 @@ returns-in_err-room g c = record {
   answer = any_given (λ reader. g.R.RowReader.gives reader) c.args.self.readers.items c.requires.possible (λ rests same. record {
     run = IfOk-from_err _ _ c.from_residual.ensures.0;
     refused = λ _. gains_nothing rests (g.F.Feed.taken c.args.sink.now);
-    popped = λ _. allows_nothing (g.G.Gate.may_go (arc_value c.args.gate)) (g.F.Feed.taken c.args.sink.now);
+    popped = λ _. allows_nothing (g.G.Gate.may_go (arc_value c.args.self.gate)) (g.F.Feed.taken c.args.sink.now);
     unfinished = λ source fault. let other = error_said _ c.from_residual.result (Unfinished source) c.from_residual.ensures.1 fault in cc;
   });
   ends = λ few. record {
@@ -100,7 +100,7 @@ returns-in-Some g c =
 pub returns : goal.returns
 returns g c =
     let given = c.in_ok-run.ensures.gains in
-    let gate = arc_value c.args.gate in
+    let gate = arc_value c.args.self.gate in
     let runs = λ (keeps : Bool). RunsWhole keeps (g.G.Gate.may_stop gate) (g.G.Gate.may_go gate) given.rests c.in_ok-run.run'.ledgers.items c.in_ok-run.run'.order.items (g.F.Feed.taken c.args.sink.now) (g.F.Feed.taken c.run_sources.new.sink) in
     record {
       answer = record {
