@@ -1,31 +1,57 @@
 -- the steps of the walk's loops
-use Rattle.std.proofs.Common.{add-one, ◌≡◌, ℕ, ◌+◌, ◌-◌, ◌≤◌, ◌<◌, List, [], ◌∷◌, ◌++◌, false, length, take, drop, reverse, get_or, sym, ◌∙◌, ap, refl, arith}
+use Rattle.std.proofs.Common.{add-one, ◌≡◌, ℕ, ◌+◌, ◌-◌, ◌≤◌, ◌<◌, List, [], ◌∷◌, ◌++◌, false, length, take, drop, reverse, get_or, sym, ◌∙◌, ap, refl, arith, ⊎_elim}
 use Rattle.std.specs.Str.{bytes_eq}
 use Rattle.std.specs.List.{enumerate_from}
+use Rattle.std.proofs.lemmas.Bool.{cases_lt}
 use Rattle.std.proofs.lemmas.Slice.Eq.{bytes_eq-Decides}
 use Rattle.std.proofs.lemmas.List.Sums.{common_prefix_len-drop_yes, common_prefix_len-drop_no}
 use Rattle.std.proofs.lemmas.List.{get_or_at, get_or-take, get_or-map, length_push, take-take, take_at, drop_more, drop_all, length-map, length-drop, reverse-append}
 use Rattle.std.proofs.lemmas.List.FromFn.{length-enumerate_from, get_or-enumerate_from}
+use Rattle.sample_tables.specs.declared.samples.TheConstants.{FRAME_LIMIT}
 use Rattle.merged_stacks.specs.Timeline.{Stack}
 use Rattle.flame_layout.specs.Chart.{names_shared}
+use Rattle.flame_layout.specs.checked.ChartWalks.{BeginAlike}
 use Rattle.flame_layout.specs.checked.Walk.{Run, names_of, shared_runs_of, box_of_run, boxes_of_runs}
 use Rattle.flame_layout.specs.declared.boxes.SpanBox.{SpanBox}
 
-pub shared_more : (a b : Stack) (i : ℕ) → i < length a → i < length b → get_or a i [] ≡ get_or b i [] → names_shared (drop i a) (drop i b) ≡ 1 + names_shared (drop (i + 1) a) (drop (i + 1) b)
+shared_more : (a b : Stack) (i : ℕ) → i < length a → i < length b → get_or a i [] ≡ get_or b i [] → names_shared (drop i a) (drop i b) ≡ 1 + names_shared (drop (i + 1) a) (drop (i + 1) b)
 shared_more a b i ha hb e = common_prefix_len-drop_yes bytes_eq a b i [] [] ha hb ((bytes_eq-Decides _ _).1 e)
 
-pub shared_stops : (a b : Stack) (i : ℕ) → i < length a → i < length b → bytes_eq (get_or a i []) (get_or b i []) ≡ false → names_shared (drop i a) (drop i b) ≡ 0
+shared_stops : (a b : Stack) (i : ℕ) → i < length a → i < length b → bytes_eq (get_or a i []) (get_or b i []) ≡ false → names_shared (drop i a) (drop i b) ≡ 0
 shared_stops a b i ha hb e = common_prefix_len-drop_no bytes_eq a b i [] [] ha hb e
 
 shared_nil : (a : Stack) → names_shared a [] ≡ 0
 shared_nil [] = refl
 shared_nil (x ∷ xs) = refl
 
-pub shared_ends_left : (a b : Stack) (i : ℕ) → length a ≤ i → names_shared (drop i a) (drop i b) ≡ 0
+shared_ends_left : (a b : Stack) (i : ℕ) → length a ≤ i → names_shared (drop i a) (drop i b) ≡ 0
 shared_ends_left a b i h = rw (drop_all i a h) refl
 
-pub shared_ends_right : (a b : Stack) (i : ℕ) → length b ≤ i → names_shared (drop i a) (drop i b) ≡ 0
+shared_ends_right : (a b : Stack) (i : ℕ) → length b ≤ i → names_shared (drop i a) (drop i b) ≡ 0
 shared_ends_right a b i h = rw (drop_all i b h) (shared_nil (drop i a))
+
+-- so many names are alike, and no more are looked at
+abbrev pub AreAlikeSoFar : Stack → Stack → ℕ → Type 0
+AreAlikeSoFar a b i = names_shared a b ≡ i + names_shared (drop i a) (drop i b)
+
+pub alike_further : (a b : Stack) (i : ℕ) → AreAlikeSoFar a b i → i < length a → i < length b → get_or a i [] ≡ get_or b i [] → AreAlikeSoFar a b (i + 1)
+alike_further a b i so_far ha hb e = omega (arith, so_far, shared_more a b i ha hb e)
+
+pub alike_until : (a b : Stack) (i : ℕ) → AreAlikeSoFar a b i → i < length a → i < length b → length a ≤ FRAME_LIMIT → bytes_eq (get_or a i []) (get_or b i []) ≡ false → BeginAlike a b i
+alike_until a b i so_far ha hb few e = record {
+  is = omega (arith, so_far, shared_stops a b i ha hb e);
+  deep = omega (arith, ha);
+  wide = omega (arith, hb);
+  small = omega (arith, ha, few);
+}
+
+pub alike_to_the_end : (a b : Stack) (i count : ℕ) → AreAlikeSoFar a b i → count ≡ i → count ≤ length a → count ≤ length b → length a ≤ FRAME_LIMIT → (length a < length b → length a ≤ i) → (length b ≤ length a → length b ≤ i) → BeginAlike a b count
+alike_to_the_end a b i count so_far all ha hb few left right = record {
+  is = ⊎_elim (λ h. omega (arith, so_far, all, shared_ends_left a b i (left h))) (λ h. omega (arith, so_far, all, shared_ends_right a b i (right h))) (cases_lt (length a) (length b));
+  deep = ha;
+  wide = hb;
+  small = omega (arith, ha, few);
+}
 
 pub names_of-length : (runs : List Run) → length (names_of runs) ≡ length runs - 1
 names_of-length runs = length-map (drop 1 runs) (λ run. run.name) ∙ length-drop 1 runs

@@ -6,15 +6,14 @@ ghost use Rattle.stack_core.specs.Interleaving.{list_of};
 ghost use Rattle.sample_tables.specs.declared.samples.Sample.{Sample as WalkedSample};
 ghost use Rattle.sample_tables.specs.Rows.{sample_at};
 ghost use Rattle.merged_stacks.specs.Timeline.{Stack, drawn, total_weight};
-ghost use Rattle.flame_layout.specs.Chart.{chart_of, names_shared};
+ghost use Rattle.flame_layout.specs.Chart.{chart_of};
 ghost use Rattle.flame_layout.specs.checked.Walk.{boxes_of_runs, new_run, shared_runs_of};
 ghost use Rattle.flame_layout.specs.checked.ChartRuns.{IsThere, samples_in, stack_at, stack_in};
-ghost use Rattle.flame_layout.specs.checked.ChartWalks.{IsChartWalk, named_runs, runs_in};
+ghost use Rattle.flame_layout.specs.checked.ChartWalks.{BeginAlike, IsChartWalk, named_runs, runs_in};
 
 use crate::chart_runs::{ChartRuns, RunStart};
 use crate::shared_names::{shared_between, shared_in_list};
 use merged_stacks::StackRows;
-use stack_core::FRAME_LIMIT;
 use std::alloc::{AllocError, Global};
 
 /// Where a run ends that goes on at the front of what was walked. Its name is that of the sample at the front.
@@ -68,11 +67,7 @@ fn shared_with<S: StackRows>(
     requires front { IsThere chart.now.lists front.now }
     requires list { list < length chart.now.lists }
     requires at { at < length (list_of chart.now.lists list) }
-    ensures is { result ≡ names_shared (stack_in chart.now.lists list at)
-        (stack_at chart.now.lists front.now) }
-    ensures deep { result ≤ length (stack_in chart.now.lists list at) }
-    ensures wide { result ≤ length (stack_at chart.now.lists front.now) }
-    ensures small { result ≤ FRAME_LIMIT }
+    ensures { BeginAlike (stack_in chart.now.lists list at) (stack_at chart.now.lists front.now) result }
 {
     let samples = chart.list(list);
     if front.list == list {
@@ -127,15 +122,15 @@ fn open_ends(ends: &mut Vec<OpenEnd>, count: usize, end: u64) -> Result<(), Allo
 /// Closes the runs at the front that don't go on under a sample.
 fn close_front<S: StackRows>(
     walk: &mut ChartWalk<'_, S>,
-    start: u64,
     list: usize,
     at: usize,
 ) -> Result<(), AllocError>
     requires list { list < length walk.old.chart.lists }
     requires at { at < length (list_of walk.old.chart.lists list) }
-    requires walked { (samples : List WalkedSample) × IsChartWalk start walk.old samples }
+    requires walked { (start : ℕ) × (samples : List WalkedSample) × IsChartWalk start walk.old samples }
     ensures lists { OnOk result (walk.new.chart.lists ≡ walk.old.chart.lists) }
-    ensures spans { OnOk result (walk.new.chart.spans ≡ walk.old.chart.spans ++ reverse (drop
+    ensures spans { OnOk result ((start : ℕ) (samples : List WalkedSample) → IsChartWalk start walk.old samples
+        → walk.new.chart.spans ≡ walk.old.chart.spans ++ reverse (drop
         (shared_runs_of (stack_in walk.old.chart.lists list at) (runs_in walk.old))
         (boxes_of_runs start (runs_in walk.old)))) }
     ensures count { OnOk result (length walk.new.ends.items
@@ -179,7 +174,7 @@ pub(crate) fn enter<S: StackRows>(
         → IsChartWalk start walk.old samples → IsChartWalk before walk.new
         (sample_at (list_of walk.old.chart.lists list) at ∷ samples)) }
 {
-    close_front(walk, start, list, at)?;
+    close_front(walk, list, at)?;
     let samples = walk.chart.list(list);
     let depth = samples.depth(at);
     let weight = samples.weight(at);

@@ -2,20 +2,16 @@
 
 ghost use Rattle.std.specs.Prelude.{◌≡◌, ◌<◌, ◌≤◌, length};
 ghost use Rattle.sample_tables.specs.Rows.{sample_at};
-ghost use Rattle.flame_layout.specs.Chart.{box_name, names_shared};
+ghost use Rattle.flame_layout.specs.Chart.{box_name};
+ghost use Rattle.flame_layout.specs.checked.ChartWalks.{BeginAlike};
 
 use merged_stacks::StackRows;
-use stack_core::FRAME_LIMIT;
 
 /// With how many names the stacks of two samples of a list begin alike.
 pub(crate) fn shared_in_list<S: StackRows>(list: &S, at: usize, later: usize) -> usize
     requires at { at < length (S.samples list.now) }
     requires later { later < length (S.samples list.now) }
-    ensures is { result ≡ names_shared (sample_at (S.samples list.now) at).stack
-        (sample_at (S.samples list.now) later).stack }
-    ensures deep { result ≤ length (sample_at (S.samples list.now) at).stack }
-    ensures wide { result ≤ length (sample_at (S.samples list.now) later).stack }
-    ensures small { result ≤ FRAME_LIMIT }
+    ensures { BeginAlike (sample_at (S.samples list.now) at).stack (sample_at (S.samples list.now) later).stack result }
 {
     let most = list.depth(at).min(list.depth(later));
     for frame in 0..most {
@@ -30,11 +26,7 @@ pub(crate) fn shared_in_list<S: StackRows>(list: &S, at: usize, later: usize) ->
 pub(crate) fn shared_between<S: StackRows>(list: &S, at: usize, other: &S, later: usize) -> usize
     requires at { at < length (S.samples list.now) }
     requires later { later < length (S.samples other.now) }
-    ensures is { result ≡ names_shared (sample_at (S.samples list.now) at).stack
-        (sample_at (S.samples other.now) later).stack }
-    ensures deep { result ≤ length (sample_at (S.samples list.now) at).stack }
-    ensures wide { result ≤ length (sample_at (S.samples other.now) later).stack }
-    ensures small { result ≤ FRAME_LIMIT }
+    ensures { BeginAlike (sample_at (S.samples list.now) at).stack (sample_at (S.samples other.now) later).stack result }
 {
     let most = list.depth(at).min(other.depth(later));
     for frame in 0..most {

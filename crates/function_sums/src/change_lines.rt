@@ -15,10 +15,10 @@ ghost use Rattle.function_sums.specs.Told.{told_of};
 
 use crate::changes::{Change, FunctionChange};
 use crate::first_sums::first_changes;
-use crate::json_parts::{append_number, append_quoted, comma_if};
 use crate::telling::Telling;
 use byte_io::Pieces;
 use std::alloc::{AllocError, Global};
+use view_texts::{append_number, append_text, comma_if};
 
 /// The line of JSON of changes. What stands before the functions, each function, and what stands after
 /// them is a piece.
@@ -99,7 +99,7 @@ fn append_members(
         (out.new.items ≡ out.old.items ++ compact_text (change_data change.now)) }
     ensures front { StartsWith out.new.items out.old.items }
 {
-    append_quoted(alloc, out, b"{\"name\":", change.name.get())?;
+    append_text(alloc, out, b"{\"name\":", change.name.get())?;
     append_number(out, b",\"own_after\":", change.own.after)?;
     append_number(out, b",\"own_before\":", change.own.before)?;
     append_number(out, b",\"total_after\":", change.total.after)?;
@@ -121,6 +121,6 @@ fn append_tail(
 {
     append_number(out, b"],\"total_after\":", whole.after)?;
     append_number(out, b",\"total_before\":", whole.before)?;
-    append_quoted(alloc, out, b",\"unit\":", unit)?;
+    append_text(alloc, out, b",\"unit\":", unit)?;
     out.extend_from_slice(b",\"view\":\"diff\"}\n")
 }

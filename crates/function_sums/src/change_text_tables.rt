@@ -68,12 +68,7 @@ impl<'a> Table<'a> {
             length (⟦<Table<'a> as Pieces>⟧.pieces table) < 2 ^ 64) }
     {
         let first = first_changes(changes, rows);
-        let shown = Shown {
-            shown: first.len(),
-            count: changes.len(),
-            what: " functions",
-            name: "",
-        };
+        let shown = Shown::functions(first.len(), changes.len());
         let heading = shown.of_sides(alloc, telling, is_exact, whole)?;
         let lines = lines(alloc, first)?;
         Table::of(alloc, telling, is_exact, heading, lines)
@@ -99,12 +94,7 @@ impl<'a> Table<'a> {
             length (⟦<Table<'a> as Pieces>⟧.pieces table) < 2 ^ 64) }
     {
         let first = first_changes(changes, rows);
-        let shown = Shown {
-            shown: first.len(),
-            count: changes.len(),
-            what: " functions",
-            name: "",
-        };
+        let shown = Shown::functions(first.len(), changes.len());
         let heading = shown.of_sides(alloc, telling, is_exact, whole)?;
         let lines = share_lines(alloc, first, whole)?;
         Table::of(alloc, telling, is_exact, heading, lines)

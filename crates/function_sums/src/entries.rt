@@ -85,7 +85,7 @@ impl Entry {
                 Ok(())
             }
             Entry::Change(change) => saying.append_signed(out, change),
-            Entry::Points { change, whole } => append_step(out, change, whole),
+            Entry::Points { change, whole } => append_points_of(out, change, whole),
         }
     }
 
@@ -99,8 +99,9 @@ impl Entry {
     }
 }
 
-// Appends how much more or less of the whole it is, or a front of that.
-fn append_step(out: &mut Vec<u8>, change: Change, whole: Change) -> Result<(), AllocError>
+/// Appends in percent points how much more or less of its side's whole a weight is after than before, or a
+/// front of that.
+pub fn append_points_of(out: &mut Vec<u8>, change: Change, whole: Change) -> Result<(), AllocError>
     ensures ok { OnOk result (out.new.items ≡ out.old.items ++ points whole change) }
     ensures front { StartsWith out.new.items out.old.items }
 {

@@ -1,6 +1,6 @@
 //! What stands above a table.
 
-ghost use Rattle.std.specs.Prelude.{◌≡◌, ◌++◌, IfOk, OnOk};
+ghost use Rattle.std.specs.Prelude.{◌≡◌, ◌++◌, [], codes, IfOk, OnOk};
 ghost use Rattle.std.specs.Io.{StartsWith};
 ghost use Rattle.function_sums.specs.Told.{kind_of, labelled, shown_of, sides_heading, told_of, whole_heading};
 
@@ -21,6 +21,19 @@ pub(crate) struct Shown<'a> {
 }
 
 impl Shown<'_> {
+    // So many functions of so many.
+    pub(crate) fn functions(shown: usize, count: usize) -> Shown<'static>
+        ensures { shown_of result.shown result.count result.what.now result.name.now
+            ≡ shown_of shown count (codes " functions") [] }
+    {
+        Shown {
+            shown,
+            count,
+            what: " functions",
+            name: "",
+        }
+    }
+
     // What stands above a table of weights that are parts of the whole.
     pub(crate) fn of_whole(
         &self,

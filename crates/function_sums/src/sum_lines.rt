@@ -18,11 +18,11 @@ ghost use Rattle.function_sums.specs.TopTexts.{top_line};
 
 use crate::call_sides::CallSide;
 use crate::first_sums::{first_sums, total_of_first, with_first};
-use crate::json_parts::{append_number, append_quoted, comma_if};
 use crate::sums::FunctionSum;
 use crate::telling::Telling;
 use byte_io::{Pieces, append_pieces};
 use std::alloc::{AllocError, Global};
+use view_texts::{append_number, append_text, comma_if};
 
 /// The line of JSON of functions, as `append_sum_line` appends it. What stands before the functions,
 /// each function, and what stands after them is a piece.
@@ -149,7 +149,7 @@ fn append_members(alloc: Global, out: &mut Vec<u8>, sum: &FunctionSum) -> Result
         (out.new.items ≡ out.old.items ++ compact_text (function_data sum.now)) }
     ensures front { StartsWith out.new.items out.old.items }
 {
-    append_quoted(alloc, out, b"{\"name\":", sum.name.get())?;
+    append_text(alloc, out, b"{\"name\":", sum.name.get())?;
     append_number(out, b",\"own\":", sum.own)?;
     append_number(out, b",\"total\":", sum.total)?;
     out.push(b'}')?;
@@ -169,7 +169,7 @@ fn append_tail(
     ensures front { StartsWith out.new.items out.old.items }
 {
     append_number(out, b"],\"total\":", whole)?;
-    append_quoted(alloc, out, b",\"unit\":", telling.unit)?;
+    append_text(alloc, out, b",\"unit\":", telling.unit)?;
     out.extend_from_slice(view_member(side))?;
     append_end(out, telling.whole)
 }

@@ -47,12 +47,7 @@ impl<'a> Table<'a> {
             length (⟦<Table<'a> as Pieces>⟧.pieces table) < 2 ^ 64) }
     {
         let first = first_sums(sums, rows);
-        let shown = Shown {
-            shown: first.len(),
-            count: sums.len(),
-            what: " functions",
-            name: "",
-        };
+        let shown = Shown::functions(first.len(), sums.len());
         let heading = shown.of_whole(alloc, telling, is_exact, whole)?;
         let mut lines = headed(alloc, true, telling.whole, first.len())?;
         let parts = Parts {

@@ -3,7 +3,6 @@ pub mod Columns
 pub mod DrawingTexts
 pub mod KeptDrawings
 pub mod KeptParts
-pub mod Lists
 pub mod Names
 pub mod NoMarkup
 pub mod PageReading

@@ -1,14 +1,16 @@
 -- The text of parts, one after another.
-use Rattle.std.proofs.Common.{◌≡◌, ℕ, ◌+◌, ◌<◌, ◌≤◌, ◌||◌, List, [], ◌∷◌, ◌++◌, length, take, drop, get_or, map, Bool, true, false, refl, sym, ap, ◌∙◌, arith, append_assoc, append-nil, take-append-drop, lt-ltb}
+use Rattle.std.proofs.Common.{◌≡◌, ℕ, ◌+◌, ◌<◌, ◌≤◌, ◌||◌, List, [], ◌∷◌, ◌++◌, length, take, drop, get_or, map, Bool, true, false, refl, sym, ap, ◌∙◌, arith, append-nil, take-append-drop, lt-ltb}
 use Rattle.std.specs.Prelude.{nat_lt}
 use Rattle.std.specs.List.{concat}
 use Rattle.std.proofs.lemmas.List.{map-append, map_more, length-map, length-take-le, get_or-map, take-take, drop-take}
 use Rattle.std.proofs.lemmas.List.Folds.{concat-append}
 use Rattle.serde_json.specs.Data.{Data}
+use Rattle.serde_json.specs.View.{items_of}
 use Rattle.serde_json.specs.Written.{comma_if}
+use Rattle.view_texts.proofs.JsonLists.{regroup}
 use Rattle.page_texts.specs.declared.parts.Part.{Part}
 use Rattle.page_texts.specs.checked.Parts.{part_text, parts_text}
-use Rattle.page_texts.specs.checked.SafeText.{safe_text, values_text}
+use Rattle.page_texts.specs.checked.SafeText.{safe_items, safe_text, values_text}
 
 -- one part more
 pub parts_text-push : (parts : List Part) (part : Part) → parts_text (parts ++ part ∷ []) ≡ parts_text parts ++ part_text part
@@ -30,8 +32,11 @@ part_at parts at part within = get_or-map part_text parts at part [] within
 
 -- ---- values in runs
 
-regroup : (a b c d : List ℕ) → a ++ (b ++ (c ++ d)) ≡ (a ++ (b ++ c)) ++ d
-regroup a b c d = simp append_assoc
+-- and with the closing bracket
+pub items_text-items_of : (later : Bool) (ds : List Data) → safe_items later (items_of ds) ≡ values_text later ds ++ 93 ∷ []
+items_text-items_of later [] = refl
+items_text-items_of later (d ∷ ds) =
+    ap (λ t. comma_if later ++ (safe_text d ++ t)) (items_text-items_of true ds) ∙ regroup (comma_if later) (safe_text d) (values_text true ds) (93 ∷ [])
 
 after_some : (later : Bool) (c : Data) (ds es : List Data) → values_text later ((c ∷ ds) ++ es) ≡ values_text later (c ∷ ds) ++ values_text true es
 after_some later c [] es =

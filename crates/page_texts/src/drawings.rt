@@ -1,6 +1,6 @@
 //! The drawings of a page.
 ghost use Rattle.std.specs.Prelude.{◌≡◌, ◌++◌, OnOk};
-ghost use Rattle.page_texts.specs.checked.Kept.{drawing_parts, moment_text, first_text, last_text, other_text};
+ghost use Rattle.page_texts.specs.checked.Kept.{drawing_parts, moment_text, other_text};
 ghost use Rattle.page_texts.specs.checked.Parts.{parts_text};
 
 use crate::kept_boxes::{Column, KeptBoxes};
@@ -41,9 +41,17 @@ pub(crate) fn push_drawing<'k, L>(
         ++ drawing_parts drawing.now kept.now) }
 {
     push_moment(parts, drawing.moment)?;
-    push_first(parts, kept, drawing.least)?;
+    push_column(parts, b"\"gap\":", Column::Gap, &kept.boxes)?;
+    push_number(parts, b",\"least\":", u128::from(drawing.least))?;
+    push_number(parts, b",\"left_out\":{\"boxes\":", kept.left_boxes as u128)?;
+    push_number(parts, b",\"weight\":", kept.left_weight)?;
+    push_column(parts, b"},\"name\":", Column::Name, &kept.boxes)?;
     push_other(parts, kept, drawing.is_compared)?;
-    push_last(parts, kept, drawing.total)
+    push_column(parts, b",\"rest\":", Column::Rest, &kept.boxes)?;
+    push_column(parts, b",\"tail\":", Column::Tail, &kept.boxes)?;
+    push_number(parts, b",\"total\":", u128::from(drawing.total))?;
+    push_column(parts, b",\"up\":", Column::Up, &kept.boxes)?;
+    push_literal(parts, b"}")
 }
 
 // Adds the bracket before a drawing, and what only a snapshot has.
@@ -61,22 +69,6 @@ fn push_moment(parts: &mut Vec<Part<'_, '_>>, moment: Option<Moment<'_>>) -> Res
     }
 }
 
-// Adds the members before those of a comparison.
-fn push_first<'k>(
-    parts: &mut Vec<Part<'_, 'k>>,
-    kept: &'k KeptBoxes,
-    least: u64,
-) -> Result<(), AllocError>
-    ensures { OnOk result
-        (parts_text parts.new.items ≡ parts_text parts.old.items ++ first_text kept.now least) }
-{
-    push_column(parts, b"\"gap\":", Column::Gap, &kept.boxes)?;
-    push_number(parts, b",\"least\":", u128::from(least))?;
-    push_number(parts, b",\"left_out\":{\"boxes\":", kept.left_boxes as u128)?;
-    push_number(parts, b",\"weight\":", kept.left_weight)?;
-    push_column(parts, b"},\"name\":", Column::Name, &kept.boxes)
-}
-
 // Adds what only a comparison has.
 fn push_other<'k>(
     parts: &mut Vec<Part<'_, 'k>>,
@@ -90,20 +82,4 @@ fn push_other<'k>(
         push_column(parts, b",\"other\":", Column::Other, &kept.boxes)?;
     }
     Ok(())
-}
-
-// Adds the members after those of a comparison, and the bracket after the drawing.
-fn push_last<'k>(
-    parts: &mut Vec<Part<'_, 'k>>,
-    kept: &'k KeptBoxes,
-    total: u64,
-) -> Result<(), AllocError>
-    ensures { OnOk result
-        (parts_text parts.new.items ≡ parts_text parts.old.items ++ last_text kept.now total) }
-{
-    push_column(parts, b",\"rest\":", Column::Rest, &kept.boxes)?;
-    push_column(parts, b",\"tail\":", Column::Tail, &kept.boxes)?;
-    push_number(parts, b",\"total\":", u128::from(total))?;
-    push_column(parts, b",\"up\":", Column::Up, &kept.boxes)?;
-    push_literal(parts, b"}")
 }

@@ -10,10 +10,11 @@ ghost use Rattle.page_texts.specs.checked.SafeText.{safe_text};
 use crate::drawings::{Drawing, push_drawing};
 use crate::kept_boxes::{KeptBoxes, KeptDrawings};
 use crate::pages::{Page, Source};
-use crate::parts::{Part, comma_if, push_literal, push_name, push_number, push_text};
+use crate::parts::{Part, push_behind, push_literal, push_number};
 use call_tree::FrameTable;
 use flame_layout::FlameBoxes;
 use std::alloc::AllocError;
+use view_texts::comma_if;
 
 // Adds the data of a page whose boxes were kept.
 pub(crate) fn push_page<'p, 'k, L: FlameBoxes>(
@@ -32,8 +33,8 @@ pub(crate) fn push_page<'p, 'k, L: FlameBoxes>(
     push_names(parts, &kept.names)?;
     push_opening(parts, page.is_root_below, page.is_share)?;
     push_sources(parts, page.sources)?;
-    push_text(parts, b",\"title\":", page.title)?;
-    push_text(parts, b",\"view\":", page.view)?;
+    push_behind(parts, b",\"title\":", Part::Text(page.title))?;
+    push_behind(parts, b",\"view\":", Part::Text(page.view))?;
     push_number(parts, b",\"whole\":", page.whole)?;
     push_literal(parts, b"}")
 }
@@ -65,7 +66,7 @@ fn push_names<'k>(parts: &mut Vec<Part<'_, 'k>>, names: &'k FrameTable) -> Resul
 {
     push_literal(parts, b",\"names\":[")?;
     for number in 0..names.len() {
-        push_name(parts, comma_if(number > 0), names.name(number))?;
+        push_behind(parts, comma_if(number > 0), Part::Name(names.name(number)))?;
     }
     push_literal(parts, b"]")
 }
@@ -117,9 +118,9 @@ fn push_source<'p>(parts: &mut Vec<Part<'p, '_>>, source: &Source<'p>) -> Result
     ensures { OnOk result (parts_text parts.new.items
         ≡ parts_text parts.old.items ++ safe_text (source_data (source_of source.now))) }
 {
-    push_text(parts, b"{\"name\":", source.name)?;
-    push_text(parts, b",\"type\":", source.type_name)?;
-    push_text(parts, b",\"unit\":", source.unit)?;
+    push_behind(parts, b"{\"name\":", Part::Text(source.name))?;
+    push_behind(parts, b",\"type\":", Part::Text(source.type_name))?;
+    push_behind(parts, b",\"unit\":", Part::Text(source.unit))?;
     push_number(parts, b",\"weight\":", u128::from(source.weight))?;
     push_literal(parts, b"}")
 }

@@ -1,6 +1,7 @@
 //! The text of a whole page.
 ghost use Rattle.std.specs.Prelude.{◌≡◌, ◌≢◌, ◌<◌, ◌^◌, ◌++◌, length, map, OnOk, OnErr, IfOk, IsErrOf};
 ghost use Rattle.std.specs.Io.KnownBytes.{Appends};
+ghost use Rattle.std.specs.List.{flat_map};
 ghost use Rattle.byte_io.specs.Calls.{one_more};
 ghost use Rattle.byte_io.specs.Pieces.{AppendsFront};
 ghost use Rattle.page_texts.specs.Page.{page_text};
@@ -74,7 +75,7 @@ pub fn send_page<L: FlameBoxes, W: Outlet>(
     ensures unfailed { result ≢ Err PieceFault.Output → W.failures out.new ≡ W.failures out.old }
 {
     let kept = keep_drawings(alloc, page.drawings)?;
-    let document = document(alloc, page, &kept)?;
+    let document = data_between(alloc, page, &kept, head(), tail())?;
     send_pieces(alloc, &document, out)
 }
 
@@ -90,44 +91,28 @@ pub fn append_page_data<L: FlameBoxes>(
     ensures err { OnErr result (out.new.items ≡ out.old.items) }
 {
     let kept = keep_drawings(alloc, page.drawings)?;
-    let data = data(alloc, page, &kept)?;
+    let data = data_between(alloc, page, &kept, &[], &[])?;
     append_pieces(alloc, &data, out)
 }
 
-// The text of the whole document, of boxes that were kept.
-fn document<'p, 'k, L: FlameBoxes>(
+// The text of the data between literal pieces, of boxes that were kept.
+fn data_between<'p, 'k, L: FlameBoxes>(
     alloc: Global,
     page: &Page<'p, L>,
     kept: &'k KeptDrawings,
+    head: &[&'static str],
+    tail: &[&'static str],
 ) -> Result<PartText<'p, 'k>, AllocError>
     requires { AreKept
         (map (drawing_of L.boxes) page.now.drawings.now) kept.now }
-    ensures text { IfOk result (λ text. parts_text text.parts.items
-        ≡ document_text (page_of L.boxes page.now)) }
+    ensures text { IfOk result (λ text. parts_text text.parts.items ≡ flat_map (λ piece. piece.now) head.now
+        ++ (page_text (page_of L.boxes page.now) ++ flat_map (λ piece. piece.now) tail.now)) }
     ensures few { IfOk result (λ text. length text.parts.items < 2 ^ 64) }
 {
     let mut parts = Vec::new(alloc);
-    push_literals(&mut parts, head())?;
+    push_literals(&mut parts, head)?;
     push_page(&mut parts, page, kept)?;
-    push_literals(&mut parts, tail())?;
-    let _count = parts.len();
-    Ok(PartText { parts })
-}
-
-// The text of the data, of boxes that were kept.
-fn data<'p, 'k, L: FlameBoxes>(
-    alloc: Global,
-    page: &Page<'p, L>,
-    kept: &'k KeptDrawings,
-) -> Result<PartText<'p, 'k>, AllocError>
-    requires { AreKept
-        (map (drawing_of L.boxes) page.now.drawings.now) kept.now }
-    ensures text { IfOk result (λ text. parts_text text.parts.items
-        ≡ page_text (page_of L.boxes page.now)) }
-    ensures few { IfOk result (λ text. length text.parts.items < 2 ^ 64) }
-{
-    let mut parts = Vec::new(alloc);
-    push_page(&mut parts, page, kept)?;
+    push_literals(&mut parts, tail)?;
     let _count = parts.len();
     Ok(PartText { parts })
 }

@@ -9,11 +9,12 @@ ghost use Rattle.page_texts.specs.checked.Parts.{part_text};
 ghost use Rattle.page_texts.specs.checked.SafeText.{values_text};
 
 use crate::kept_boxes::{before_at, is_under_at};
-use crate::parts::{Part, Run, comma_if};
+use crate::parts::{Part, Run};
 use crate::script_safe::append_script_safe;
 use byte_io::Pieces;
 use itoa::{Buffer, Integer};
 use std::alloc::{AllocError, Global};
+use view_texts::comma_if;
 
 // A text of parts, each of which is a piece.
 #[derive(Drop)]

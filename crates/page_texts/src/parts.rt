@@ -1,16 +1,14 @@
 //! The text of a page in parts: few where its boxes are many, and none long.
 ghost use Rattle.std.specs.Prelude.{◌≡◌, ◌++◌, decimal, map, OnOk};
 ghost use Rattle.std.specs.List.{flat_map};
-ghost use Rattle.json.specs.Print.{quoted};
-ghost use Rattle.serde_json.specs.Written.{comma_if};
 ghost use Rattle.page_texts.specs.Page.{whole_number, list_data};
-ghost use Rattle.page_texts.specs.ScriptSafe.{script_safe};
 ghost use Rattle.page_texts.specs.checked.Kept.{no_kept, numbers_of};
 ghost use Rattle.page_texts.specs.checked.Parts.{part_text, parts_text};
 ghost use Rattle.page_texts.specs.checked.SafeText.{safe_text};
 
 use crate::kept_boxes::{Column, KeptBox, NO_BOX, before_at};
 use std::alloc::AllocError;
+use view_texts::comma_if;
 
 // How many numbers of a column are a part at most.
 const RUN: usize = 1024;
@@ -35,13 +33,6 @@ pub(crate) enum Part<'p, 'k> {
     Text(&'p str),
     Name(&'k str),
     Numbers(Run<'k>),
-}
-
-// What stands before a value of a list.
-pub(crate) fn comma_if(later: bool) -> &'static [u8]
-    ensures { result.now ≡ comma_if later }
-{
-    if later { b"," } else { b"" }
 }
 
 // Adds a part.
@@ -81,6 +72,19 @@ pub(crate) fn push_literals(
     Ok(())
 }
 
+// Adds a literal piece and a part.
+pub(crate) fn push_behind<'p, 'k>(
+    parts: &mut Vec<Part<'p, 'k>>,
+    piece: &'static [u8],
+    part: Part<'p, 'k>,
+) -> Result<(), AllocError>
+    ensures { OnOk result (parts_text parts.new.items
+        ≡ parts_text parts.old.items ++ (piece.now ++ part_text part.entry)) }
+{
+    push_literal(parts, piece)?;
+    push_part(parts, part)
+}
+
 // Adds a literal piece and a number.
 pub(crate) fn push_number(
     parts: &mut Vec<Part<'_, '_>>,
@@ -90,34 +94,7 @@ pub(crate) fn push_number(
     ensures { OnOk result
         (parts_text parts.new.items ≡ parts_text parts.old.items ++ (piece.now ++ decimal number)) }
 {
-    push_literal(parts, piece)?;
-    push_part(parts, Part::Number(number))
-}
-
-// Adds a literal piece and a text in quotes, with its escapes.
-pub(crate) fn push_text<'p>(
-    parts: &mut Vec<Part<'p, '_>>,
-    piece: &'static [u8],
-    text: &'p str,
-) -> Result<(), AllocError>
-    ensures { OnOk result (parts_text parts.new.items
-        ≡ parts_text parts.old.items ++ (piece.now ++ script_safe (quoted text.now))) }
-{
-    push_literal(parts, piece)?;
-    push_part(parts, Part::Text(text))
-}
-
-// Adds a literal piece and a name in quotes, with its escapes.
-pub(crate) fn push_name<'k>(
-    parts: &mut Vec<Part<'_, 'k>>,
-    piece: &'static [u8],
-    name: &'k str,
-) -> Result<(), AllocError>
-    ensures { OnOk result (parts_text parts.new.items
-        ≡ parts_text parts.old.items ++ (piece.now ++ script_safe (quoted name.now))) }
-{
-    push_literal(parts, piece)?;
-    push_part(parts, Part::Name(name))
+    push_behind(parts, piece, Part::Number(number))
 }
 
 // Adds a literal piece and a list of numbers.

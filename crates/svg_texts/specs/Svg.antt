@@ -6,7 +6,7 @@ use Rattle.flame_layout.specs.declared.boxes.ComparedBox.{ComparedBox}
 use Rattle.flame_layout.specs.Boxes.{SeenBox, paired_box, plain_box}
 use Rattle.flame_layout.specs.Edges.{left_edge, right_edge}
 use Rattle.function_sums.specs.declared.changes.Change.{Change}
-use Rattle.view_texts.specs.WeightTexts.{weight_text, change_text}
+use Rattle.view_texts.specs.WeightTexts.{weight_text}
 use Rattle.view_texts.specs.Shares.{share_text}
 use Rattle.svg_texts.specs.Changes.{compared_fill, said_change}
 use Rattle.svg_texts.specs.Shown.{shown}

@@ -3,9 +3,9 @@ ghost use Rattle.std.specs.Prelude.{◌≡◌, ◌++◌, OnOk};
 ghost use Rattle.std.specs.Io.{StartsWith};
 ghost use Rattle.svg_texts.specs.Changes.{said_change};
 
-use function_sums::Change;
+use function_sums::{Change, append_points_of};
 use std::alloc::AllocError;
-use view_texts::{Part, append_change, append_points};
+use view_texts::append_change;
 
 // The weights of a path before and after, and what both profiles weigh, where shares of that are compared.
 #[derive(Clone, Copy)]
@@ -22,16 +22,6 @@ pub(crate) fn append_said_change(out: &mut Vec<u8>, compared: Compared) -> Resul
     let Compared { weights, whole } = compared;
     match whole {
         None => append_change(out, weights.before, weights.after),
-        Some(whole) => {
-            let before = Part {
-                weight: weights.before,
-                whole: whole.before,
-            };
-            let after = Part {
-                weight: weights.after,
-                whole: whole.after,
-            };
-            append_points(out, before, after)
-        }
+        Some(whole) => append_points_of(out, weights, whole),
     }
 }

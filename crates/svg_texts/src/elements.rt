@@ -4,9 +4,9 @@ ghost use Rattle.std.specs.Io.{StartsWith};
 ghost use Rattle.svg_texts.specs.Shown.{shown};
 ghost use Rattle.svg_texts.specs.Svg.{title_element, text_element, text_tag};
 
-use crate::numbers::append_number;
 use crate::shown_texts::append_shown;
 use std::alloc::AllocError;
+use view_texts::append_number;
 
 // Appends the element of a title.
 #[tactic(auto, unfolding(crate::specs::Svg::title_element))]

@@ -5,9 +5,9 @@ ghost use Rattle.svg_texts.specs.Changes.{compared_fill};
 ghost use Rattle.svg_texts.specs.Fills.{change_fill, colour_of, fill_of_number, fill_of_shade, hash_of, hash_step, name_fill, root_fill, saturation, shade};
 
 use crate::changes::Compared;
-use crate::numbers::append_number;
 use function_sums::{share_after, share_before};
 use std::alloc::AllocError;
+use view_texts::append_number;
 
 // Appends the colour of the root of a picture of one profile.
 pub(crate) fn append_root_fill(out: &mut Vec<u8>) -> Result<(), AllocError>

@@ -7,7 +7,6 @@ mod fills;
 mod frames;
 mod labels;
 pub mod laws;
-mod numbers;
 mod pictures;
 mod said_weights;
 mod shown_texts;

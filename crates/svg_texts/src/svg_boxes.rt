@@ -4,7 +4,7 @@ ghost use Rattle.std.specs.Io.{StartsWith};
 ghost use Rattle.flame_layout.specs.Boxes.{seen_of, span_of};
 ghost use Rattle.svg_texts.specs.Labels.{label};
 ghost use Rattle.svg_texts.specs.Drawn.{picture_of};
-ghost use Rattle.svg_texts.specs.Svg.{both_in_tip, box_line, change_of, compared_in, fill_of, label_element, left_of, name_in_tip, part_in, plain_fill, rect_element, right_of, tip, title_element, top_of, weights_in_tip, whole_of};
+ghost use Rattle.svg_texts.specs.Svg.{both_in_tip, box_line, change_of, compared_in, fill_with, label_element, left_of, name_in_tip, part_in, plain_fill, rect_element, right_of, tip, title_element, top_of, weights_in_tip, whole_of};
 ghost use Rattle.svg_texts.specs.checked.Pieces.{box_piece};
 
 use crate::changes::{Compared, append_said_change};
@@ -12,14 +12,13 @@ use crate::elements::append_text_tag;
 use crate::fills::{append_compared_fill, append_name_fill, append_root_fill};
 use crate::frames::Frame;
 use crate::labels::{append_label, room_on};
-use crate::numbers::append_number;
 use crate::pictures::Picture;
 use crate::said_weights::append_weight_in;
 use crate::shown_texts::append_shown;
 use flame_layout::{DrawnBox, PictureBox, edges};
 use function_sums::Change;
 use std::alloc::AllocError;
-use view_texts::append_share;
+use view_texts::{append_number, append_share};
 
 // Appends the line of a box, or nothing where its edges fall together.
 pub(crate) fn append_box(
@@ -58,8 +57,16 @@ fn append_box_line(
     let top = top_of(&one.drawn, frame);
     out.extend_from_slice(b"<g>")?;
     append_tip_element(out, one, frame)?;
-    append_rect_element(out, left, top, width, one, frame.picture)?;
-    append_label_element(out, left + 4, top + 13, room_on(width), one, frame.picture)?;
+    let change = change_of(one, frame.picture);
+    append_rect_element(out, left, top, width, &one.drawn, change)?;
+    append_label_element(
+        out,
+        left + 4,
+        top + 13,
+        room_on(width),
+        one.drawn.name,
+        change,
+    )?;
     out.extend_from_slice(b"</g>\n")
 }
 
@@ -186,45 +193,45 @@ fn append_rect_element(
     left: u64,
     top: u64,
     width: u64,
-    one: &PictureBox<'_>,
-    picture: &Picture<'_>,
+    drawn: &DrawnBox<'_>,
+    change: Option<Compared>,
 ) -> Result<(), AllocError>
     ensures ok { OnOk result (out.new.items ≡ out.old.items
-        ++ rect_element left top width (fill_of (picture_of picture.now) (seen_of one.now))) }
+        ++ rect_element left top width (fill_with (span_of drawn.now) change)) }
     ensures front { StartsWith out.new.items out.old.items }
 {
     append_number(out, b"<rect x=\"", left)?;
     append_number(out, b"\" y=\"", top)?;
     append_number(out, b"\" width=\"", width)?;
-    append_fill_attribute(out, one, picture)
+    append_fill_attribute(out, drawn, change)
 }
 
 // Appends what stands behind the width of a box: its height and its colour.
 fn append_fill_attribute(
     out: &mut Vec<u8>,
-    one: &PictureBox<'_>,
-    picture: &Picture<'_>,
+    drawn: &DrawnBox<'_>,
+    change: Option<Compared>,
 ) -> Result<(), AllocError>
     ensures ok { OnOk result (out.new.items ≡ out.old.items
-        ++ (codes "\" height=\"17\" fill=\"" ++ (fill_of (picture_of picture.now) (seen_of one.now) ++ codes "\"/>"))) }
+        ++ (codes "\" height=\"17\" fill=\"" ++ (fill_with (span_of drawn.now) change ++ codes "\"/>"))) }
     ensures front { StartsWith out.new.items out.old.items }
 {
     out.extend_from_slice(b"\" height=\"17\" fill=\"")?;
-    append_fill(out, one, picture)?;
+    append_fill(out, drawn, change)?;
     out.extend_from_slice(b"\"/>")
 }
 
 fn append_fill(
     out: &mut Vec<u8>,
-    one: &PictureBox<'_>,
-    picture: &Picture<'_>,
+    drawn: &DrawnBox<'_>,
+    change: Option<Compared>,
 ) -> Result<(), AllocError>
-    ensures ok { OnOk result (out.new.items ≡ out.old.items ++ fill_of (picture_of picture.now) (seen_of one.now)) }
+    ensures ok { OnOk result (out.new.items ≡ out.old.items ++ fill_with (span_of drawn.now) change) }
     ensures front { StartsWith out.new.items out.old.items }
 {
-    match change_of(one, picture) {
+    match change {
         Some(compared) => append_compared_fill(out, compared),
-        None => append_plain_fill(out, &one.drawn),
+        None => append_plain_fill(out, drawn),
     }
 }
 
@@ -245,17 +252,16 @@ fn append_label_element(
     left: u64,
     base: u64,
     room: usize,
-    one: &PictureBox<'_>,
-    picture: &Picture<'_>,
+    name: &str,
+    change: Option<Compared>,
 ) -> Result<(), AllocError>
-    ensures ok { OnOk result (out.new.items ≡ out.old.items
-        ++ label_element left base (label room one.now.drawn.name.now (change_of (picture_of picture.now) (seen_of one.now)))) }
+    ensures ok { OnOk result (out.new.items ≡ out.old.items ++ label_element left base (label room name.now change)) }
     ensures front { StartsWith out.new.items out.old.items }
 {
     let start = out.len();
     append_text_tag(out, left, base)?;
     let inside = out.len();
-    append_label(out, room, one.drawn.name, change_of(one, picture))?;
+    append_label(out, room, name, change)?;
     if out.len() > inside {
         return out.extend_from_slice(b"</text>");
     }

@@ -6,9 +6,9 @@ ghost use Rattle.svg_texts.specs.Svg.{foot, heading, height_of, narrower_boxes, 
 
 use crate::elements::{append_text_element, append_text_tag, append_title_element};
 use crate::frames::Frame;
-use crate::numbers::append_number;
 use crate::said_weights::append_weight_in;
 use std::alloc::AllocError;
+use view_texts::append_number;
 
 // Appends what stands before the boxes.
 pub(crate) fn append_heading(out: &mut Vec<u8>, frame: &Frame<'_>) -> Result<(), AllocError>

@@ -11,7 +11,7 @@ abbrev pub values_text : Bool → List Data → List ℕ
 values_text later [] = []
 values_text later (d ∷ ds) = comma_if later ++ (compact_text d ++ values_text true ds)
 
-regroup : (a b c d : List ℕ) → a ++ (b ++ (c ++ d)) ≡ (a ++ (b ++ c)) ++ d
+pub regroup : (a b c d : List ℕ) → a ++ (b ++ (c ++ d)) ≡ (a ++ (b ++ c)) ++ d
 regroup a b c d = simp append_assoc
 
 -- and with it

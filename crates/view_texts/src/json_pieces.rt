@@ -10,8 +10,8 @@ use crate::plain_texts::is_plain;
 use itoa::Buffer;
 use std::alloc::{AllocError, Global};
 
-// What stands before a value of a list.
-pub(crate) fn comma_if(later: bool) -> &'static [u8]
+/// What stands before a value of a list.
+pub fn comma_if(later: bool) -> &'static [u8]
     ensures { result.now ≡ comma_if later }
 {
     if later { b"," } else { b"" }
@@ -28,9 +28,9 @@ pub(crate) fn append_comma(out: &mut Vec<u8>, later: bool) -> Result<(), AllocEr
     Ok(())
 }
 
-// Appends a literal piece and a number. It is inlined so that the length of the piece is known.
+/// Appends a literal piece and a number. It is inlined so that the length of the piece is known.
 #[inline(always)]
-pub(crate) fn append_number(out: &mut Vec<u8>, piece: &[u8], number: u64) -> Result<(), AllocError>
+pub fn append_number(out: &mut Vec<u8>, piece: &[u8], number: u64) -> Result<(), AllocError>
     ensures ok { OnOk result (out.new.items ≡ out.old.items ++ (piece.now ++ decimal number)) }
     ensures front { StartsWith out.new.items out.old.items }
 {
@@ -39,8 +39,8 @@ pub(crate) fn append_number(out: &mut Vec<u8>, piece: &[u8], number: u64) -> Res
     out.extend_from_slice(digits.format(number).as_bytes())
 }
 
-// Appends a literal piece and a text in quotes, with its escapes.
-pub(crate) fn append_text(
+/// Appends a literal piece and a text in quotes, with its escapes.
+pub fn append_text(
     alloc: Global,
     out: &mut Vec<u8>,
     piece: &[u8],

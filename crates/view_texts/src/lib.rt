@@ -29,6 +29,7 @@ pub use byte_io::truncate_on_error;
 pub use changes::append_change;
 pub use json_line::JsonLine;
 pub use json_lines::{drawn_comparison_line, drawn_line, drawn_snapshot_line};
+pub use json_pieces::{append_number, append_text, comma_if};
 pub use merged_lines::FoldedText;
 pub use scales::Scale;
 pub use shares::{Part, append_points, append_share, share_width};

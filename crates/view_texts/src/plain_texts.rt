@@ -7,6 +7,17 @@ ghost use Rattle.view_texts.specs.checked.PlainTexts.{IsPlainByte};
 
 use std::simd::prelude::*;
 
+// Whether no byte of a block at a place has an escape.
+macro_rules! has_no_escape {
+    ($block:ident, $text:expr, $at:expr) => {{
+        let block = $block::from_slice(&$text[$at..]);
+        (block.simd_eq($block::splat(b'"'))
+            | block.simd_eq($block::splat(b'\\'))
+            | block.simd_lt($block::splat(b' '))).to_bitmask()
+            == 0
+    }};
+}
+
 // Whether a text stands in quotes as it is, without an escape. Names are mostly plain, so blocks of
 // bytes are looked at first.
 pub(crate) fn is_plain(text: &[u8]) -> bool
@@ -52,11 +63,7 @@ fn is_plain_8(text: &[u8], at: usize) -> bool
     requires { at + 8 ≤ length text.now }
     ensures { OnTrue result (PlainBetween text.now at (at + 8)) }
 {
-    let block = u8x8::from_slice(&text[at..]);
-    (block.simd_eq(u8x8::splat(b'"'))
-        | block.simd_eq(u8x8::splat(b'\\'))
-        | block.simd_lt(u8x8::splat(b' '))).to_bitmask()
-        == 0
+    has_no_escape!(u8x8, text, at)
 }
 
 #[inline(always)]
@@ -64,9 +71,5 @@ fn is_plain_16(text: &[u8], at: usize) -> bool
     requires { at + 16 ≤ length text.now }
     ensures { OnTrue result (PlainBetween text.now at (at + 16)) }
 {
-    let block = u8x16::from_slice(&text[at..]);
-    (block.simd_eq(u8x16::splat(b'"'))
-        | block.simd_eq(u8x16::splat(b'\\'))
-        | block.simd_lt(u8x16::splat(b' '))).to_bitmask()
-        == 0
+    has_no_escape!(u8x16, text, at)
 }

@@ -1,15 +1,23 @@
 -- The walk that keeps of each run only where it ends, since its name is that of the sample at the front.
-use Rattle.std.specs.Prelude.{◌≡◌, ℕ, ◌+◌, List, [], Option, None, Some, IfSome, length, map}
+use Rattle.std.specs.Prelude.{◌≡◌, ◌≤◌, ℕ, ◌+◌, List, [], Option, None, Some, IfSome, length, map}
 use Rattle.std.specs.Option.{IfNone}
 use Rattle.std.specs.List.{enumerate_from}
 use Rattle.sample_tables.specs.declared.samples.Sample.{Sample}
+use Rattle.sample_tables.specs.declared.samples.TheConstants.{FRAME_LIMIT}
 use Rattle.merged_stacks.specs.Timeline.{Stack}
 use Rattle.flame_layout.specs.declared.chart_runs.RunStart.{RunStart}
 use Rattle.flame_layout.specs.declared.chart_walks.ChartWalk.{ChartWalk}
 use Rattle.flame_layout.specs.declared.chart_walks.OpenEnd.{OpenEnd}
-use Rattle.flame_layout.specs.Chart.{box_name}
+use Rattle.flame_layout.specs.Chart.{box_name, names_shared}
 use Rattle.flame_layout.specs.checked.ChartRuns.{IsThere, stack_at}
 use Rattle.flame_layout.specs.checked.Walk.{IsWalk, Run}
+
+-- two stacks begin alike with so many names
+pub record BeginAlike (one other : Stack) (count : ℕ) : Type 0 where
+  pub is : count ≡ names_shared one other
+  pub deep : count ≤ length one
+  pub wide : count ≤ length other
+  pub small : count ≤ FRAME_LIMIT
 
 -- the run of a depth of a stack, by where it ends
 abbrev pub named_run : Stack → ℕ × OpenEnd → Run

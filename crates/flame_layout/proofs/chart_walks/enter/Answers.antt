@@ -14,6 +14,9 @@ use Rattle.flame_layout.proofs.chart_walks.enter.Goals as goal
 samples_are : {lists mid : List (List Sample)} (list : ℕ) {samples : List Sample} → mid ≡ lists → samples ≡ list_of mid list → list_of lists list ≡ samples
 samples_are list same is = ap (λ (ls : List (List Sample)). list_of ls list) (sym same) ∙ sym is
 
+pub close_front-requires-clause-walked : goal.close_front-requires-clause-walked
+close_front-requires-clause-walked g c = (c.args.start, c.requires.walked.0, c.requires.walked.1)
+
 pub depth-depth-requires : goal.depth-depth-requires
 depth-depth-requires g c = omega (arith, c.requires.at, ap length (samples_are c.args.list c.in_ok-close_front.ensures.lists c.list-samples.ensures))
 
@@ -72,4 +75,4 @@ returns-clause-walked g c before rest e w =
     let set_is : set more c.depth-depth.result (record { end = last.end; own = c.with_weight-last.result }) ≡ set more (length p.stack) (record { end = last.end; own = last.own + p.weight }) =
     λ i. set more (deep i) (record { end = last.end; own = own i }) in
     chart-entered c.args.start before walk _ rest p mid more last front (omega (arith, deep, c.depth-depth.ensures.limit)) e w c.in_ok-close_front.ensures.count c.in_ok-close_front.ensures.kept is read
-    c.in_ok-close_front.ensures.spans set_is refl (subst (λ ls. IsThere ls front) (sym c.in_ok-close_front.ensures.lists) here) (ap (λ (ls : List (List Sample)). stack_at ls front) c.in_ok-close_front.ensures.lists) (omega (arith, e, weight))
+    (c.in_ok-close_front.ensures.spans c.args.start _ c.requires.walked.1) set_is refl (subst (λ ls. IsThere ls front) (sym c.in_ok-close_front.ensures.lists) here) (ap (λ (ls : List (List Sample)). stack_at ls front) c.in_ok-close_front.ensures.lists) (omega (arith, e, weight))

@@ -5,7 +5,6 @@ use Rattle.stack_core.specs.Interleaving.{list_of}
 use Rattle.flame_layout.specs.declared.boxes.SpanBox.{SpanBox}
 use Rattle.merged_stacks.specs.RankedStacks.{ranked_samples}
 use Rattle.merged_stacks.specs.Timeline.{total_weight}
-use Rattle.flame_layout.specs.Chart.{chart_of}
 use Rattle.flame_layout.proofs.GraphBoxes.{graph-positive}
 use Rattle.flame_layout.proofs.Geometry.{chart-within}
 use Rattle.merged_stacks.proofs.MergedRows.{as_true}

@@ -10,7 +10,7 @@ use Rattle.page_texts.specs.checked.Parts.{parts_text}
 use Rattle.page_texts.specs.checked.SafeText.{safe_items, safe_text, values_text}
 use Rattle.page_texts.proofs.DrawingTexts.{drawing_text}
 use Rattle.page_texts.proofs.KeptDrawings.{kept_at}
-use Rattle.page_texts.proofs.Lists.{values_text-more, items_text-items_of}
+use Rattle.page_texts.proofs.PartLists.{values_text-next, items_text-items_of}
 use Rattle.page_texts.proofs.PageTexts.{list_step, list_end, maps_are_one}
 use Rattle.page_texts.proofs.page_parts.push_drawings.Goals as goal
 
@@ -21,7 +21,7 @@ loop-at-preserved g c names all =
     let at = c.loop-at.at in
     let drawing = c.index-drawings-at.result in
     let answer = c.index-kept-at.result in
-    let more = values_text-more (λ d. drawing_data names (stands_for d)) drawings at drawing (omega arith) in
+    let more = values_text-next false (λ d. drawing_data names (stands_for d)) drawings at drawing (omega arith) in
     let keeps = kept_at names stands_for drawings c.args.kept.now at drawing answer all (omega arith) c.index-drawings-at.is c.index-kept-at.is in
     let text = drawing_text names drawing.moment drawing.is_compared drawing.least drawing.total (map page_box (g.L.FlameBoxes.boxes drawing.boxes)) answer keeps in
     list_step (parts_text c.push_literal.new.parts.items) _ (comma_if (nat_lt 0 at)) _ _ (parts_text c.loop-at.parts.items) (parts_text c.push_literal-in-loop-at.new.parts.items) (parts_text c.push_drawing.new.parts.items)

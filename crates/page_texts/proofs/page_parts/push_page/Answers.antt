@@ -26,9 +26,9 @@ returns g c =
     on_ok_weaker c.push_literal-2.result
     (λ last. ten_in_turn (parts_text c.args.parts.now.items) (codes "{\"drawings\":") (safe_text (list_data (map (drawing_data names) page.drawings))) (more_text page.has_more) (list_after (codes ",\"names\":") (map string names)) (opening_text page.is_root_below page.is_share) (list_after (codes ",\"sources\":") (map source_data page.sources))
     (text_after (codes ",\"title\":") page.title) (text_after (codes ",\"view\":") page.view) (number_text (codes ",\"whole\":") page.whole) (125 ∷ []) _
-    (parts_text c.push_literal.new.parts.items) (parts_text c.push_drawings.new.parts.items) (parts_text c.push_if.new.parts.items) (parts_text c.push_names.new.parts.items) (parts_text c.push_opening.new.parts.items) (parts_text c.push_sources.new.parts.items) (parts_text c.push_text.new.parts.items) (parts_text c.push_text-2.new.parts.items) (parts_text c.push_number.new.parts.items) (parts_text c.push_literal-2.new.parts.items)
+    (parts_text c.push_literal.new.parts.items) (parts_text c.push_drawings.new.parts.items) (parts_text c.push_if.new.parts.items) (parts_text c.push_names.new.parts.items) (parts_text c.push_opening.new.parts.items) (parts_text c.push_sources.new.parts.items) (parts_text c.push_behind.new.parts.items) (parts_text c.push_behind-2.new.parts.items) (parts_text c.push_number.new.parts.items) (parts_text c.push_literal-2.new.parts.items)
     c.in_ok-push_literal.ensures (c.in_ok-push_drawings.ensures names all) c.in_ok-push_if.ensures c.in_ok-push_names.ensures c.in_ok-push_opening.ensures
     (c.in_ok-push_sources.ensures ∙ ap (λ ds. parts_text c.push_opening.new.parts.items ++ list_after (codes ",\"sources\":") ds) (sources_same c.args.page.now.sources.now))
-    c.in_ok-push_text.ensures c.in_ok-push_text-2.ensures c.in_ok-push_number.ensures last
+    c.in_ok-push_behind.ensures c.in_ok-push_behind-2.ensures c.in_ok-push_number.ensures last
     (page_parts page names c.requires.0))
     c.push_literal-2.ensures

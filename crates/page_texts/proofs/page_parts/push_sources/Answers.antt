@@ -8,7 +8,7 @@ use Rattle.page_texts.specs.Drawn.{source_of}
 use Rattle.page_texts.specs.declared.pages.Source.{Source}
 use Rattle.page_texts.specs.checked.Parts.{parts_text}
 use Rattle.page_texts.specs.checked.SafeText.{values_text}
-use Rattle.page_texts.proofs.Lists.{values_text-more, items_text-items_of}
+use Rattle.page_texts.proofs.PartLists.{values_text-next, items_text-items_of}
 use Rattle.page_texts.proofs.PageTexts.{list_step, list_end}
 use Rattle.page_texts.proofs.page_parts.push_sources.Goals as goal
 
@@ -18,7 +18,7 @@ blank = record { name = record { ref_ptr = (0, 0); now = [] }; type_name = recor
 pub loop-i-preserved : goal.loop-i-preserved
 loop-i-preserved c =
     let sources = c.args.sources.now in
-    let more = values_text-more (λ source. source_data (source_of source)) sources c.loop-i.i blank (omega arith) in
+    let more = values_text-next false (λ source. source_data (source_of source)) sources c.loop-i.i blank (omega arith) in
     list_step (parts_text c.push_literal.new.parts.items) _ (comma_if (nat_lt 0 c.loop-i.i)) _ _ (parts_text c.loop-i.parts.items) (parts_text c.push_literal-in-loop-i.new.parts.items) (parts_text c.push_source.new.parts.items)
     c.loop-i.invariant (c.in_ok-push_literal-2.ensures ∙ ap (λ t. parts_text c.loop-i.parts.items ++ t) c.comma_if.ensures) c.in_ok-push_source.ensures more
 

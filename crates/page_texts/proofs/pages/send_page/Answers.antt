@@ -1,10 +1,12 @@
-use Rattle.std.proofs.Common.{ℕ, List, refl, subst, ◌∙◌}
+use Rattle.std.proofs.Common.{ℕ, List, refl, subst, ◌∙◌, ◌++◌}
 use Rattle.std.proofs.KnownBytes.{Appends-nil}
 use Rattle.std.proofs.lemmas.Result.{IfOk-from_err}
 use Rattle.std.specs.Prelude.{OnOk, OnErr}
 use Rattle.std.specs.Io.KnownBytes.{Appends}
 use Rattle.byte_io.specs.Pieces.{AppendsFront}
 use Rattle.byte_io.proofs.PieceTexts.{on_err}
+use Rattle.page_texts.specs.Page.{page_text}
+use Rattle.page_texts.specs.Drawn.{page_of}
 use Rattle.page_texts.proofs.PartLists.{concat-parts}
 use Rattle.page_texts.proofs.Unsent.{not_of_output}
 use Rattle.page_texts.proofs.pages.send_page.Goals as goal
@@ -12,12 +14,12 @@ use Rattle.page_texts.proofs.pages.send_page.Goals as goal
 pub returns-clause-ok : goal.returns-clause-ok
 returns-clause-ok g c =
     subst (λ (text : List ℕ). OnOk c.send_pieces.result (Appends (g.W.Outlet.contents c.args.out.now) (g.W.Outlet.contents c.send_pieces.new.out) text))
-    (concat-parts c.in_ok-document.document.parts.items ∙ c.in_ok-document.ensures.text) c.send_pieces.ensures.ok
+    (concat-parts c.in_ok-document.document.parts.items ∙ c.in_ok-document.ensures.text ∙ (λ i. c.head.ensures i ++ (page_text (page_of g.L.FlameBoxes.boxes c.args.page.now) ++ c.tail.ensures i))) c.send_pieces.ensures.ok
 
 pub returns-clause-front : goal.returns-clause-front
 returns-clause-front g c =
     subst (λ (text : List ℕ). OnErr c.send_pieces.result (AppendsFront text (g.W.Outlet.contents c.args.out.now) (g.W.Outlet.contents c.send_pieces.new.out)))
-    (concat-parts c.in_ok-document.document.parts.items ∙ c.in_ok-document.ensures.text) c.send_pieces.ensures.front
+    (concat-parts c.in_ok-document.document.parts.items ∙ c.in_ok-document.ensures.text ∙ (λ i. c.head.ensures i ++ (page_text (page_of g.L.FlameBoxes.boxes c.args.page.now) ++ c.tail.ensures i))) c.send_pieces.ensures.front
 
 pub returns-in_err-kept-clause-ok : goal.returns-in_err-kept-clause-ok
 returns-in_err-kept-clause-ok g c = IfOk-from_err c.from_residual.result _ c.from_residual.ensures.0

@@ -8,9 +8,8 @@ use Rattle.page_texts.specs.checked.Kept.{no_kept, numbers_of}
 use Rattle.page_texts.specs.checked.Parts.{parts_text}
 use Rattle.page_texts.specs.checked.SafeText.{values_text}
 use Rattle.page_texts.proofs.Columns.{numbers-length, numbers-drop}
-use Rattle.page_texts.proofs.Lists.{items_text-items_of}
 use Rattle.page_texts.proofs.PageTexts.{list_end}
-use Rattle.page_texts.proofs.PartLists.{values_text-run, front_and_run}
+use Rattle.page_texts.proofs.PartLists.{items_text-items_of, values_text-run, front_and_run}
 use Rattle.page_texts.proofs.parts.push_column.Goals as goal
 
 pub loop-at-preserved : goal.loop-at-preserved

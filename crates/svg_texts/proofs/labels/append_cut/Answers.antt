@@ -2,7 +2,7 @@ use Rattle.std.proofs.Common.{◌≡◌, ◌<◌, ◌++◌, [], ◌∷◌, lengt
 use Rattle.std.proofs.lemmas.List.{length-append}
 use Rattle.svg_texts.specs.Labels.{front}
 use Rattle.svg_texts.specs.Shown.{visible, xml_text}
-use Rattle.svg_texts.proofs.Appended.{behind}
+use Rattle.view_texts.proofs.Fronts.{text_after}
 use Rattle.svg_texts.proofs.Cut.{cut-some, cut-none}
 use Rattle.svg_texts.proofs.labels.append_cut.Goals as goal
 
@@ -12,7 +12,7 @@ returns-in_ok-extend_from_slice-clause-ok c =
     let begun = front c.args.room (visible c.args.name.now) in
     let long = ap length c.in_ok-append_front.ensures.ok ∙ length-append start (xml_text begun) in
     let some : 0 < length (xml_text begun) = omega (arith, long, c.args.out.now.ok, c.append_front.new.out.ok, c.len-start.ensures, c.len.ensures, c.if-len-start.true) in
-    behind start c.append_front.new.out.items _ (xml_text begun) (226 ∷ 128 ∷ 166 ∷ []) c.in_ok-append_front.ensures.ok c.in_ok-extend_from_slice.ensures.items ∙ ap (λ text. start ++ text) (sym (cut-some begun some))
+    text_after start c.append_front.new.out.items _ (xml_text begun) (226 ∷ 128 ∷ 166 ∷ []) c.in_ok-append_front.ensures.ok c.in_ok-extend_from_slice.ensures.items ∙ ap (λ text. start ++ text) (sym (cut-some begun some))
 
 pub returns-else-len-start-clause-ok : goal.returns-else-len-start-clause-ok
 returns-else-len-start-clause-ok c =

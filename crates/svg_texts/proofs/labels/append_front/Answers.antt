@@ -4,7 +4,7 @@ use Rattle.std.proofs.lemmas.List.Sums.{sum_by-append}
 use Rattle.byte_io.proofs.PieceTexts.{further}
 use Rattle.svg_texts.specs.Labels.{front, places, places_of}
 use Rattle.svg_texts.specs.Shown.{visible, visible_character, xml_text}
-use Rattle.svg_texts.proofs.Appended.{behind}
+use Rattle.view_texts.proofs.Fronts.{text_after}
 use Rattle.svg_texts.proofs.Characters.{all_there, in_turn}
 use Rattle.svg_texts.proofs.Fitting.{front-append, front-over, front-whole}
 use Rattle.svg_texts.proofs.Visible.{seen, seen_in, seen_more, xml-append}
@@ -19,7 +19,7 @@ loop-character-preserved c =
     let whole = front-whole next c.loop-character.rest (omega (arith, c.visible_places.ensures, c.in-Some-checked_sub.ensures)) in
     record {
       room = omega (arith, ap places_of more, sum_by-append places before next, c.loop-character.invariant.room, c.visible_places.ensures, c.in-Some-checked_sub.ensures);
-      written = behind start c.loop-character.out.items _ (xml_text before) (xml_text next) c.loop-character.invariant.written (c.in_ok-append_front_of.ensures.ok ∙ ap (λ text. c.loop-character.out.items ++ xml_text text) whole)
+      written = text_after start c.loop-character.out.items _ (xml_text before) (xml_text next) c.loop-character.invariant.written (c.in_ok-append_front_of.ensures.ok ∙ ap (λ text. c.loop-character.out.items ++ xml_text text) whole)
           ∙ ap (λ text. start ++ text) (sym (xml-append before next) ∙ ap xml_text (sym more));
     }
 
@@ -34,7 +34,7 @@ returns-in_default-clause-ok c =
     let fits : front c.args.room (visible c.args.name.now) ≡ before ++ front room next =
     ap (front c.args.room) text ∙ (front-append before (next ++ seen turn.0) c.args.room room (sym c.loop-character.invariant.room)
     ∙ ap (λ rest. before ++ rest) (front-over next (seen turn.0) room (omega (arith, c.visible_places.ensures, c.in_default.ensures)))) in
-    behind start c.loop-character.out.items _ (xml_text before) (xml_text (front room next)) c.loop-character.invariant.written c.in_ok-append_front_of.ensures.ok
+    text_after start c.loop-character.out.items _ (xml_text before) (xml_text (front room next)) c.loop-character.invariant.written c.in_ok-append_front_of.ensures.ok
     ∙ ap (λ rest. start ++ rest) (sym (xml-append before (front room next)) ∙ ap xml_text (sym fits))
 
 pub returns-clause-ok : goal.returns-clause-ok

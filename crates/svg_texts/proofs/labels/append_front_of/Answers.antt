@@ -1,7 +1,7 @@
 use Rattle.std.proofs.Common.{◌≡◌, ◌++◌, cond, [], ◌∷◌, min, take, ap, sym, ◌∙◌}
 use Rattle.svg_texts.specs.Labels.{front}
 use Rattle.svg_texts.specs.Shown.{number_text, visible_character, xml_text}
-use Rattle.svg_texts.proofs.Appended.{on_ok_if}
+use Rattle.view_texts.proofs.Fronts.{on_ok_if}
 use Rattle.svg_texts.proofs.Plain.{front-number}
 use Rattle.svg_texts.proofs.labels.append_front_of.Goals as goal
 

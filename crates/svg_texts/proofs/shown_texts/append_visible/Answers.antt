@@ -1,6 +1,6 @@
 use Rattle.std.proofs.Common.{◌≡◌, ◌++◌, cond, [], ◌∷◌, ap, sym, ◌∙◌}
 use Rattle.svg_texts.specs.Shown.{number_text, visible_character, xml_text}
-use Rattle.svg_texts.proofs.Appended.{on_ok_if}
+use Rattle.view_texts.proofs.Fronts.{on_ok_if}
 use Rattle.svg_texts.proofs.Plain.{number-plain, text-plain}
 use Rattle.svg_texts.proofs.shown_texts.append_visible.Goals as goal
 

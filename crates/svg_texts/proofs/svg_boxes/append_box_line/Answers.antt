@@ -1,7 +1,7 @@
 use Rattle.std.proofs.Common.{append_assoc}
 use Rattle.std.specs.Prelude.{codes}
 use Rattle.svg_texts.specs.Svg.{box_line}
-use Rattle.svg_texts.proofs.Appended.{on_ok_if}
+use Rattle.view_texts.proofs.Fronts.{on_ok_if}
 use Rattle.svg_texts.proofs.svg_boxes.append_box_line.Goals as goal
 
 pub returns-clause-ok : goal.returns-clause-ok
@@ -14,6 +14,7 @@ returns-clause-ok c =
       c.in_ok-append_rect_element.ensures.ok,
       c.in_ok-append_tip_element.ensures.ok,
       c.in_ok-extend_from_slice.ensures.items,
+      c.change_of-change.ensures,
       c.room_on.ensures,
       c.from-width.ensures,
       c.saturating_sub.ensures,

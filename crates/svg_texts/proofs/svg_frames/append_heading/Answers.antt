@@ -1,7 +1,8 @@
 use Rattle.std.proofs.Common.{append_assoc}
 use Rattle.std.specs.Prelude.{codes}
 use Rattle.svg_texts.specs.Svg.{heading}
-use Rattle.svg_texts.proofs.Appended.{on_ok_if, front_either, front_trans, front_more}
+use Rattle.svg_texts.proofs.Appended.{front_either, front_trans, front_more}
+use Rattle.view_texts.proofs.Fronts.{on_ok_if}
 use Rattle.svg_texts.proofs.svg_frames.append_heading.Goals as goal
 
 pub returns-in_err-append_paper-clause-front : goal.returns-in_err-append_paper-clause-front

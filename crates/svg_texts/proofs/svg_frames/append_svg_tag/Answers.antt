@@ -1,7 +1,7 @@
 use Rattle.std.proofs.Common.{append_assoc}
 use Rattle.std.specs.Prelude.{codes}
 use Rattle.svg_texts.specs.Svg.{svg_tag}
-use Rattle.svg_texts.proofs.Appended.{on_ok_if}
+use Rattle.view_texts.proofs.Fronts.{on_ok_if}
 use Rattle.svg_texts.proofs.svg_frames.append_svg_tag.Goals as goal
 
 pub returns-clause-ok : goal.returns-clause-ok

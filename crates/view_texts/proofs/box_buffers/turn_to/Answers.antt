@@ -1,4 +1,4 @@
-use Rattle.std.proofs.Common.{◌+◌, ◌*◌, ◌/◌, ◌≡◌, ◌++◌, ◌∙◌, [], drop, ap, append-nil, arith, rules}
+use Rattle.std.proofs.Common.{◌≡◌, ◌++◌, ◌∙◌, [], drop, ap, append-nil, arith, rules}
 use Rattle.std.proofs.lemmas.List.{drop_all}
 use Rattle.view_texts.specs.checked.BoxParts.{edge_text}
 use Rattle.view_texts.proofs.box_buffers.turn_to.Goals as goal

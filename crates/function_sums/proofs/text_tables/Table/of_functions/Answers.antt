@@ -17,7 +17,7 @@ returns-clause-text c =
     let wanted = function_lines is_exact told whole (Some 0) first in
     let lines = c.in_ok-add_lines.ensures is_exact told refl ∙ ap (λ lines. lines ++ wanted) (c.in_ok-lines.ensures is_exact told.unit) in
     IfOk-weaker c.of.result _ _ (λ table is. is ∙ joined c.in_ok-heading.heading.items (shown_of (length first) (length c.args.sums.now) (codes " functions") []) (whole_heading is_exact told whole)
-    (map (line_of is_exact told.unit) c.add_lines.new.lines.items) (headings true told.whole ∷ wanted) c.in_ok-heading.ensures lines
+    (map (line_of is_exact told.unit) c.add_lines.new.lines.items) (headings true told.whole ∷ wanted) (c.in_ok-heading.ensures ∙ ap (λ text. text ++ whole_heading is_exact told whole) c.functions-shown.ensures) lines
     ∙ ap (functions_table is_exact told (length c.args.sums.now) whole) c.first_sums-first.ensures.first) c.of.ensures.text
 
 pub returns-clause-top : goal.returns-clause-top

@@ -1,4 +1,4 @@
-use Rattle.std.proofs.Common.{◌∙◌, ◌∷◌, [], ap, codes, length, map}
+use Rattle.std.proofs.Common.{◌∙◌, ◌∷◌, ◌++◌, [], ap, codes, length, map}
 use Rattle.std.proofs.lemmas.Result.{IfOk-weaker}
 use Rattle.function_sums.specs.ChangeTable.{share_headings, share_line, shares_table}
 use Rattle.function_sums.specs.Told.{shown_of, sides_heading, told_of}
@@ -15,7 +15,7 @@ returns-clause-text c =
     let whole = c.args.whole in
     let first = c.first_changes-first.result.now in
     IfOk-weaker c.of.result _ _ (λ table is. is ∙ joined c.in_ok-heading.heading.items (shown_of (length first) (length c.args.changes.now) (codes " functions") []) (sides_heading is_exact told whole.before whole.after)
-    (map (line_of is_exact told.unit) c.in_ok-lines.lines.items) (share_headings ∷ map (share_line whole) first) c.in_ok-heading.ensures (c.in_ok-lines.ensures is_exact told.unit)
+    (map (line_of is_exact told.unit) c.in_ok-lines.lines.items) (share_headings ∷ map (share_line whole) first) (c.in_ok-heading.ensures ∙ ap (λ text. text ++ sides_heading is_exact told whole.before whole.after) c.functions-shown.ensures) (c.in_ok-lines.ensures is_exact told.unit)
     ∙ ap (shares_table is_exact told (length c.args.changes.now) whole) c.first_changes-first.ensures.first) c.of.ensures.text
 
 pub returns-clause-diff : goal.returns-clause-diff
