@@ -34,7 +34,7 @@ impl<T: rt::Files<File = File> + Alloc<A = Global>> Outputs for MachineOutputs<'
 
     ghost has_terminal = { has_machine_terminal };
 
-    // A link is followed. Who may read and write a file that stood there may do so with the new one.
+    // A link to a file is followed. The new one has the permissions of the one that stood there.
     fn begin(&mut self, alloc: Global, path: &str) -> io::Result<Draft<CountedWriter<File>>> {
         let place = match fs::canonicalize(self.rt, path) {
             Ok(place) => String::from_str(alloc, place.as_str())?,
@@ -51,7 +51,9 @@ impl<T: rt::Files<File = File> + Alloc<A = Global>> Outputs for MachineOutputs<'
         let mut file = String::from_str(alloc, place.as_str())?;
         file.push_str(".part")?;
         let path = String::from_str(alloc, path)?;
-        let writer = CountedWriter::new(fs::create(self.rt, file.as_str())?);
+        // A link that stands there is not followed.
+        let _ = fs::remove_file(self.rt, file.as_str());
+        let writer = CountedWriter::new(File::create_new(self.rt, file.as_str())?);
         if let Some(stood) = stood {
             // Where that is not allowed, the new one has what any new file has.
             let _ = fs::set_permissions(self.rt, file.as_str(), stood.permissions());
