@@ -1,6 +1,7 @@
 -- What builders make of a command, and of a command line.
-use Rattle.std.proofs.Common.{◌≡◌, ◌∙◌, ◌<◌, ◌+◌, ℕ, Bool, List, [], ◌∷◌, true, false, not, ap, ap₂, get_or, length, map, refl, sym, is_some, take}
-use Rattle.std.specs.List.{fold}
+use Rattle.std.proofs.Common.{◌≡◌, ◌∙◌, ◌<◌, ◌+◌, ℕ, Bool, List, [], ◌∷◌, ◌++◌, true, false, not, ap, append-nil, append_assoc, ap₂, get_or, length, map, refl, sym, is_some, take}
+use Rattle.std.specs.List.{flat_map, fold}
+use Rattle.std.proofs.lemmas.Grind.{flat_map-append}
 use Rattle.std.proofs.lemmas.List.{map-append, take_more}
 use Rattle.std.proofs.lemmas.List.Sums.{fold-append}
 use Rattle.clap.proofs.WalkLemmas.{both}
@@ -82,16 +83,27 @@ argument_is_simple argument.Before = refl
 argument_is_simple argument.After = refl
 argument_is_simple argument.Profile = refl
 
--- `Command::arg`, of the next of a command's arguments
-pub with_next_argument : (old new : Command) (built : Arg) (name : Text) (arguments : List Argument) (at : ℕ) (d : Argument)
-    → at < length arguments → AddsArg old built new → app_of old ≡ as_app (command name (map rule_at (take at arguments)))
+-- `Command::arg`, of the next of further arguments
+pub with_next_argument : (old new : Command) (built : Arg) (name : Text) (rules : List Rule) (arguments : List Argument) (at : ℕ) (d : Argument)
+    → at < length arguments → AddsArg old built new → app_of old ≡ as_app (command name (rules ++ map rule_at (take at arguments)))
     → rule_of built ≡ rule_at (get_or arguments at d)
-    → app_of new ≡ as_app (command name (map rule_at (take (at + 1) arguments)))
-with_next_argument old new built name arguments at d below added start is =
+    → app_of new ≡ as_app (command name (rules ++ map rule_at (take (at + 1) arguments)))
+with_next_argument old new built name rules arguments at d below added start is =
     let a = get_or arguments at d in
-    with_argument old new built (as_app (command name (map rule_at (take at arguments)))) (rule_at a) added start is (argument_is_simple a)
+    let before = map rule_at (take at arguments) in
+    with_argument old new built (as_app (command name (rules ++ before))) (rule_at a) added start is (argument_is_simple a)
     ∙ ap (λ (rules : List Rule). as_app (command name rules))
-    (sym (ap (map rule_at) (take_more arguments at d below) ∙ map-append rule_at (take at arguments) (a ∷ [])))
+    (append_assoc rules before (rule_at a ∷ []) ∙ sym (ap (λ (items : List Argument). rules ++ map rule_at items) (take_more arguments at d below) ∙ ap (λ (more : List Rule). rules ++ more) (map-append rule_at (take at arguments) (a ∷ []))))
+
+-- with the next of the parts of its arguments
+pub with_next_part : {P : Type 0} (new : Command) (name : Text) (parts : List P) (rules : P → List Rule) (at : ℕ) (d : P)
+    → at < length parts → app_of new ≡ as_app (command name (flat_map rules (take at parts) ++ rules (get_or parts at d)))
+    → app_of new ≡ as_app (command name (flat_map rules (take (at + 1) parts)))
+with_next_part new name parts rules at d below made =
+    let part = get_or parts at d in
+    made ∙ ap (λ (all : List Rule). as_app (command name all))
+    (sym (ap (flat_map rules) (take_more parts at d below) ∙ flat_map-append rules (take at parts) (part ∷ [])
+    ∙ ap (λ (more : List Rule). flat_map rules (take at parts) ++ more) (append-nil (rules part))))
 
 pub with_all_arguments : (s : Subcommand) → command (shape_at s).name (shape_at s).rules ≡ shape_at s
 with_all_arguments subcommand.Fold = refl

@@ -1,5 +1,5 @@
 -- What a command line without a fault makes of its command and entries.
-use Rattle.std.proofs.Common.{◌≡◌, ◌∙◌, ◌≤◌, ◌||◌, ◌⊎◌, inl, inr, ℕ, Bool, cond, true, false, not, refl, sym, ap, subst, arith, List, [], ◌∷◌, ◌++◌, length, Option, Some, None, is_some, option_map, true≢false, codes}
+use Rattle.std.proofs.Common.{◌≡◌, rules, ◌∙◌, ◌≤◌, ◌||◌, ◌⊎◌, inl, inr, ℕ, Bool, cond, true, false, not, refl, sym, ap, subst, arith, List, [], ◌∷◌, ◌++◌, length, Option, Some, None, is_some, option_map, true≢false, codes}
 use Rattle.std.specs.Prelude.{slice_get, unwrap_or, option_and_then, pos, IfSome, IsSome}
 use Rattle.std.specs.List.{AllByRecursion as Each, find, list_any, slice_index_or}
 use Rattle.std.specs.Option.{option_map_or}
@@ -315,193 +315,31 @@ abbrev built_types : Shape
 built_types = slice_index_or built_line.subs 11 no_shape
 
 fold_known : KnowsArguments built_fold.rules
-fold_known = record {
-  firsts = (refl, (refl, (refl, (refl, (refl, (refl, (refl, (refl, (refl, (refl, (refl, (refl, (refl, tt)))))))))))));
-  width = tt;
-  ring = refl;
-  every = tt;
-  lines = refl;
-  boxes = tt;
-  rows = tt;
-  json = tt;
-  exact = tt;
-  share = tt;
-  over = tt;
-  strict = refl;
-  quiet = refl;
-  page = tt;
-  svg = tt;
-  below = tt;
-  least = tt;
-}
+fold_known = search rules
 
 graph_known : KnowsArguments built_graph.rules
-graph_known = record {
-  firsts = (refl, (refl, (refl, (refl, (refl, (refl, (refl, (refl, (refl, (refl, (refl, (refl, (refl, (refl, (refl, (refl, (refl, (refl, (refl, (refl, (refl, tt)))))))))))))))))))));
-  width = refl;
-  ring = refl;
-  every = refl;
-  lines = refl;
-  boxes = tt;
-  rows = tt;
-  json = tt;
-  exact = tt;
-  share = tt;
-  over = tt;
-  strict = refl;
-  quiet = refl;
-  page = refl;
-  svg = refl;
-  below = refl;
-  least = refl;
-}
+graph_known = search rules
 
 chart_known : KnowsArguments built_chart.rules
-chart_known = record {
-  firsts = (refl, (refl, (refl, (refl, (refl, (refl, (refl, (refl, (refl, (refl, (refl, (refl, (refl, (refl, (refl, (refl, (refl, (refl, (refl, (refl, tt))))))))))))))))))));
-  width = refl;
-  ring = refl;
-  every = tt;
-  lines = refl;
-  boxes = tt;
-  rows = tt;
-  json = tt;
-  exact = tt;
-  share = tt;
-  over = tt;
-  strict = refl;
-  quiet = refl;
-  page = refl;
-  svg = refl;
-  below = refl;
-  least = refl;
-}
+chart_known = search rules
 
 svg_known : KnowsArguments built_svg.rules
-svg_known = record {
-  firsts = (refl, (refl, (refl, (refl, (refl, (refl, (refl, (refl, (refl, (refl, (refl, (refl, (refl, (refl, (refl, (refl, (refl, tt)))))))))))))))));
-  width = refl;
-  ring = refl;
-  every = tt;
-  lines = refl;
-  boxes = tt;
-  rows = tt;
-  json = tt;
-  exact = tt;
-  share = tt;
-  over = tt;
-  strict = refl;
-  quiet = refl;
-  page = tt;
-  svg = tt;
-  below = refl;
-  least = tt;
-}
+svg_known = search rules
 
 live_known : KnowsArguments built_live.rules
-live_known = record {
-  firsts = (refl, (refl, (refl, (refl, (refl, (refl, (refl, (refl, tt))))))));
-  width = refl;
-  ring = refl;
-  every = refl;
-  lines = tt;
-  boxes = tt;
-  rows = tt;
-  json = tt;
-  exact = tt;
-  share = tt;
-  over = tt;
-  strict = refl;
-  quiet = tt;
-  page = tt;
-  svg = tt;
-  below = tt;
-  least = tt;
-}
+live_known = search rules
 
 compare_known : KnowsArguments built_compare.rules
-compare_known = record {
-  firsts = (refl, (refl, (refl, (refl, (refl, (refl, (refl, (refl, (refl, (refl, (refl, (refl, (refl, (refl, (refl, (refl, (refl, (refl, (refl, (refl, (refl, (refl, (refl, tt)))))))))))))))))))))));
-  width = refl;
-  ring = refl;
-  every = tt;
-  lines = refl;
-  boxes = refl;
-  rows = tt;
-  json = tt;
-  exact = tt;
-  share = refl;
-  over = tt;
-  strict = refl;
-  quiet = refl;
-  page = refl;
-  svg = refl;
-  below = refl;
-  least = refl;
-}
+compare_known = search rules
 
 top_known : KnowsArguments built_top.rules
-top_known = record {
-  firsts = (refl, (refl, (refl, (refl, (refl, (refl, (refl, (refl, (refl, (refl, (refl, (refl, (refl, (refl, (refl, (refl, (refl, (refl, tt))))))))))))))))));
-  width = tt;
-  ring = refl;
-  every = tt;
-  lines = refl;
-  boxes = tt;
-  rows = refl;
-  json = refl;
-  exact = refl;
-  share = tt;
-  over = tt;
-  strict = refl;
-  quiet = refl;
-  page = tt;
-  svg = tt;
-  below = tt;
-  least = tt;
-}
+top_known = search rules
 
 diff_known : KnowsArguments built_diff.rules
-diff_known = record {
-  firsts = (refl, (refl, (refl, (refl, (refl, (refl, (refl, (refl, (refl, (refl, (refl, (refl, (refl, (refl, (refl, (refl, (refl, (refl, (refl, (refl, (refl, tt)))))))))))))))))))));
-  width = tt;
-  ring = refl;
-  every = tt;
-  lines = refl;
-  boxes = tt;
-  rows = refl;
-  json = refl;
-  exact = refl;
-  share = refl;
-  over = refl;
-  strict = refl;
-  quiet = refl;
-  page = tt;
-  svg = tt;
-  below = tt;
-  least = tt;
-}
+diff_known = search rules
 
 callers_known : KnowsArguments built_callers.rules
-callers_known = record {
-  firsts = (refl, (refl, (refl, (refl, (refl, (refl, (refl, (refl, (refl, (refl, (refl, (refl, (refl, (refl, (refl, (refl, (refl, (refl, tt))))))))))))))))));
-  width = tt;
-  ring = refl;
-  every = tt;
-  lines = refl;
-  boxes = tt;
-  rows = refl;
-  json = refl;
-  exact = refl;
-  share = tt;
-  over = tt;
-  strict = refl;
-  quiet = refl;
-  page = tt;
-  svg = tt;
-  below = tt;
-  least = tt;
-}
+callers_known = search rules
 
 callees_known : KnowsArguments built_callees.rules
 callees_known = callers_known
@@ -510,25 +348,7 @@ peek_known : KnowsArguments built_peek.rules
 peek_known = callers_known
 
 types_known : KnowsArguments built_types.rules
-types_known = record {
-  firsts = (refl, (refl, (refl, tt)));
-  width = tt;
-  ring = tt;
-  every = tt;
-  lines = tt;
-  boxes = tt;
-  rows = tt;
-  json = tt;
-  exact = tt;
-  share = tt;
-  over = tt;
-  strict = tt;
-  quiet = tt;
-  page = tt;
-  svg = tt;
-  below = tt;
-  least = tt;
-}
+types_known = search rules
 
 -- the name is another, by a byte that differs
 not_named : (P : Type 0) → false ≡ true → P

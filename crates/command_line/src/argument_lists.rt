@@ -52,184 +52,114 @@ pub(crate) enum Argument {
     Profile,
 }
 
-pub(crate) const FOLD: &[Argument] = &[
-    Argument::Type,
+// What each command reads profiles by.
+const READING: &[Argument] = &[
     Argument::Format,
     Argument::Focus,
     Argument::Hide,
     Argument::From,
     Argument::Omit,
     Argument::Ring,
-    Argument::Lines,
-    Argument::Strict,
-    Argument::Output,
-    Argument::Quiet,
-    Argument::Files,
 ];
 
-pub(crate) const GRAPH: &[Argument] = &[
-    Argument::Width,
-    Argument::Type,
-    Argument::Unit,
-    Argument::Format,
-    Argument::Focus,
-    Argument::Hide,
-    Argument::From,
-    Argument::Omit,
-    Argument::Ring,
-    Argument::Every,
+// How each names frames, what it refuses and where it writes.
+const WRITING: &[Argument] = &[
     Argument::Lines,
     Argument::Strict,
     Argument::Output,
     Argument::Quiet,
+];
+
+// What weighs, and in which unit.
+const WEIGHTS: &[Argument] = &[Argument::Type, Argument::Unit];
+
+// A picture in place of a line of JSON.
+const PICTURE: &[Argument] = &[
     Argument::Page,
     Argument::Svg,
     Argument::Title,
     Argument::RootBelow,
     Argument::Least,
-    Argument::Files,
 ];
 
-pub(crate) const CHART: &[Argument] = &[
-    Argument::Width,
-    Argument::Type,
-    Argument::Unit,
-    Argument::Format,
-    Argument::Focus,
-    Argument::Hide,
-    Argument::From,
-    Argument::Omit,
-    Argument::Ring,
-    Argument::Lines,
-    Argument::Strict,
-    Argument::Output,
-    Argument::Quiet,
-    Argument::Page,
-    Argument::Svg,
-    Argument::Title,
-    Argument::RootBelow,
-    Argument::Least,
-    Argument::Files,
+const WIDTH: &[Argument] = &[Argument::Width];
+
+const TABLE: &[Argument] = &[Argument::Json, Argument::Exact];
+
+const FILES: &[Argument] = &[Argument::Files];
+
+const PAIR: &[Argument] = &[Argument::Before, Argument::After];
+
+pub(crate) const FOLD: &[&[Argument]] = &[&[Argument::Type], READING, WRITING, FILES];
+
+pub(crate) const GRAPH: &[&[Argument]] = &[
+    WIDTH,
+    WEIGHTS,
+    READING,
+    &[Argument::Every],
+    WRITING,
+    PICTURE,
+    FILES,
 ];
 
-pub(crate) const SVG: &[Argument] = &[
-    Argument::Width,
-    Argument::Type,
-    Argument::Unit,
-    Argument::Format,
-    Argument::Focus,
-    Argument::Hide,
-    Argument::From,
-    Argument::Omit,
-    Argument::Ring,
-    Argument::Lines,
-    Argument::Strict,
-    Argument::Output,
-    Argument::Quiet,
-    Argument::Title,
-    Argument::RootBelow,
-    Argument::Files,
+pub(crate) const CHART: &[&[Argument]] = &[WIDTH, WEIGHTS, READING, WRITING, PICTURE, FILES];
+
+pub(crate) const SVG: &[&[Argument]] = &[
+    WIDTH,
+    WEIGHTS,
+    READING,
+    WRITING,
+    &[Argument::Title, Argument::RootBelow],
+    FILES,
 ];
 
-pub(crate) const LIVE: &[Argument] = &[
-    Argument::Width,
-    Argument::LiveEvery,
-    Argument::Ring,
-    Argument::LiveStrict,
-    Argument::Output,
-    Argument::LivePage,
-    Argument::Streams,
+pub(crate) const LIVE: &[&[Argument]] = &[
+    WIDTH,
+    &[Argument::LiveEvery, Argument::Ring, Argument::LiveStrict],
+    &[Argument::Output, Argument::LivePage, Argument::Streams],
 ];
 
-pub(crate) const COMPARE: &[Argument] = &[
-    Argument::Width,
-    Argument::Type,
-    Argument::Unit,
-    Argument::Format,
-    Argument::Focus,
-    Argument::Hide,
-    Argument::From,
-    Argument::Omit,
-    Argument::Ring,
-    Argument::Boxes,
-    Argument::Lines,
-    Argument::Strict,
-    Argument::Output,
-    Argument::Quiet,
-    Argument::Page,
-    Argument::Svg,
-    Argument::Title,
-    Argument::RootBelow,
-    Argument::Least,
-    Argument::FormShare,
-    Argument::Before,
-    Argument::After,
+pub(crate) const COMPARE: &[&[Argument]] = &[
+    WIDTH,
+    WEIGHTS,
+    READING,
+    &[Argument::Boxes],
+    WRITING,
+    PICTURE,
+    &[Argument::FormShare],
+    PAIR,
 ];
 
-pub(crate) const TOP: &[Argument] = &[
-    Argument::Rows,
-    Argument::By,
-    Argument::Json,
-    Argument::Exact,
-    Argument::Type,
-    Argument::Unit,
-    Argument::Format,
-    Argument::Focus,
-    Argument::Hide,
-    Argument::From,
-    Argument::Omit,
-    Argument::Ring,
-    Argument::Lines,
-    Argument::Strict,
-    Argument::Output,
-    Argument::Quiet,
-    Argument::Files,
+pub(crate) const TOP: &[&[Argument]] = &[
+    &[Argument::Rows, Argument::By],
+    TABLE,
+    WEIGHTS,
+    READING,
+    WRITING,
+    FILES,
 ];
 
-pub(crate) const DIFF: &[Argument] = &[
-    Argument::Rows,
-    Argument::By,
-    Argument::Json,
-    Argument::Exact,
-    Argument::Share,
-    Argument::FailOver,
-    Argument::Type,
-    Argument::Unit,
-    Argument::Format,
-    Argument::Focus,
-    Argument::Hide,
-    Argument::From,
-    Argument::Omit,
-    Argument::Ring,
-    Argument::Lines,
-    Argument::Strict,
-    Argument::Output,
-    Argument::Quiet,
-    Argument::Before,
-    Argument::After,
+pub(crate) const DIFF: &[&[Argument]] = &[
+    &[Argument::Rows, Argument::By],
+    TABLE,
+    &[Argument::Share, Argument::FailOver],
+    WEIGHTS,
+    READING,
+    WRITING,
+    PAIR,
 ];
 
-pub(crate) const CALLS: &[Argument] = &[
-    Argument::Rows,
-    Argument::Json,
-    Argument::Exact,
-    Argument::Type,
-    Argument::Unit,
-    Argument::Format,
-    Argument::Focus,
-    Argument::Hide,
-    Argument::From,
-    Argument::Omit,
-    Argument::Ring,
-    Argument::Lines,
-    Argument::Strict,
-    Argument::Output,
-    Argument::Quiet,
-    Argument::Function,
-    Argument::Files,
+pub(crate) const CALLS: &[&[Argument]] = &[
+    &[Argument::Rows],
+    TABLE,
+    WEIGHTS,
+    READING,
+    WRITING,
+    &[Argument::Function],
+    FILES,
 ];
 
-pub(crate) const TYPES: &[Argument] = &[Argument::Output, Argument::Profile];
+pub(crate) const TYPES: &[&[Argument]] = &[&[Argument::Output, Argument::Profile]];
 
 impl Argument {
     // What the help says of it.
@@ -258,7 +188,7 @@ impl Argument {
             Argument::Share =>
                 "Write and sort by shares of what each profile weighs, for profiles of different length",
             Argument::FailOver =>
-                "Exit with 4 where a function's share of own weight grew by more than P hundredths, 0 to 100",
+                "Exit with 4 where a function's share of own weight grew by more than P percent points, 0 to 100",
             Argument::Unit =>
                 "Unit of weights that have none: nanoseconds, microseconds, milliseconds, seconds, bytes or samples",
             Argument::Strict => "Refuse sources with an ignored line, or without a sample",

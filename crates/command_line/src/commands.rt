@@ -1,7 +1,8 @@
 //! The command line, as `clap` reads it and as its help shows it.
-ghost use Rattle.std.specs.Prelude.{◌≡◌, IfOk, map};
+ghost use Rattle.std.specs.Prelude.{◌≡◌, ◌++◌, List, IfOk, flat_map, map};
+ghost use Rattle.clap.specs.Walk.{Rule, Text};
 ghost use Rattle.clap.specs.Words.{app_of, new_app, with_subcommand};
-ghost use Rattle.command_line.specs.CommandLine.{command_line};
+ghost use Rattle.command_line.specs.CommandLine.{command as command_of, command_line};
 ghost use Rattle.command_line.specs.checked.Apps.{as_app, program};
 ghost use Rattle.command_line.specs.checked.Commands.{rule_at, shape_at};
 
@@ -12,7 +13,7 @@ use clap::Command;
 use std::alloc::{AllocError, Global};
 
 // The number and the day of the newest heading in CHANGELOG.md, and what proved and built the program.
-const VERSION: &str = "0.5.0 (2026-11-30, rattle-kit-13f logic dac8208d650f15bf)";
+const VERSION: &str = "0.5.1 (2026-12-01, rattle-kit-13f logic dac8208d650f15bf)";
 
 const NOTES: &str = "\
 Formats:
@@ -130,7 +131,7 @@ impl Subcommand {
             Subcommand::Chart => "Write the flame chart as a line of JSON",
             Subcommand::Svg => "Write the flame graph as an SVG, to FILE.svg beside the first FILE",
             Subcommand::Live =>
-                "Write the flame graph of streams while they grow, a line of JSON each time",
+                "Write the flame graph of streams while they grow: lines of JSON, on a terminal a table",
             Subcommand::Compare => "Write each stack of two profiles with its weight in both",
             Subcommand::Top => "Write the functions with the greatest weights",
             Subcommand::Diff => "Write the functions of two profiles with the greatest changes",
@@ -158,8 +159,9 @@ impl Subcommand {
         }
     }
 
-    fn arguments(&self) -> &'static [Argument]
-        ensures { map rule_at result.now ≡ (shape_at self.now).rules }
+    // In parts that several commands have.
+    fn arguments(&self) -> &'static [&'static [Argument]]
+        ensures { flat_map (λ part. map rule_at part.now) result.now ≡ (shape_at self.now).rules }
     {
         match self {
             Subcommand::Fold => FOLD,
@@ -182,11 +184,26 @@ impl Subcommand {
         ensures { IfOk result (λ command. app_of command ≡ as_app (shape_at self.now)) }
     {
         let mut command = described(alloc, self.name(), self.about(), self.example());
-        for argument in self.arguments() {
-            command = command.arg(argument.built(alloc))?;
+        for part in self.arguments() {
+            command = with_arguments(alloc, command, part)?;
         }
         Ok(command)
     }
+}
+
+// The command with further arguments.
+fn with_arguments<'a>(
+    alloc: Global,
+    mut command: Command<'a>,
+    arguments: &[Argument],
+) -> Result<Command<'a>, AllocError>
+    ensures { (name : Text) (rules : List Rule) → app_of command.entry ≡ as_app (command_of name rules)
+        → IfOk result (λ more. app_of more ≡ as_app (command_of name (rules ++ map rule_at arguments.now))) }
+{
+    for argument in arguments {
+        command = command.arg(argument.built(alloc))?;
+    }
+    Ok(command)
 }
 
 // The whole command line. Its words begin after the program's name.

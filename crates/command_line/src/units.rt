@@ -13,20 +13,26 @@ pub enum WeightUnit {
     Samples,
 }
 
+const ALL: &[WeightUnit] = &[
+    WeightUnit::Nanoseconds,
+    WeightUnit::Microseconds,
+    WeightUnit::Milliseconds,
+    WeightUnit::Seconds,
+    WeightUnit::Bytes,
+    WeightUnit::Samples,
+];
+
 impl WeightUnit {
     /// The unit of that name.
     pub fn named(name: &str) -> Option<WeightUnit>
         ensures { result ≡ named_unit name.now }
     {
-        match name {
-            "nanoseconds" => Some(WeightUnit::Nanoseconds),
-            "microseconds" => Some(WeightUnit::Microseconds),
-            "milliseconds" => Some(WeightUnit::Milliseconds),
-            "seconds" => Some(WeightUnit::Seconds),
-            "bytes" => Some(WeightUnit::Bytes),
-            "samples" => Some(WeightUnit::Samples),
-            _ => None,
+        for unit in ALL {
+            if name == unit.name() {
+                return Some(*unit);
+            }
         }
+        None
     }
 
     /// Its name, as profiles write it.

@@ -61,6 +61,10 @@ abbrev pub is_types : List Text → Bool
 is_types [] = false
 is_types (name ∷ rest) = bytes_eq name (codes "types")
 
+abbrev pub is_svg : List Text → Bool
+is_svg [] = false
+is_svg (name ∷ rest) = bytes_eq name (codes "svg")
+
 abbrev pub asks_format : Text → Bool
 asks_format word = starts_with nat_eq word (codes "--format")
 
@@ -79,10 +83,10 @@ abbrev pub source_word : List Text → List Text → Text → Text
 source_word words files path =
     if (length files == 0) || not (is_quotable words) then codes "FILE" else shell_word path
 
--- the only source can come by a pipe: it is the input, or its path is one word alone
+-- the only source can come by a pipe: it is the input, or its path is one word alone, which does not name the picture
 abbrev pub can_pipe : List Text → List Text → Text → Bool
 can_pipe words files path = is_quotable words && ((length files == 0)
-    || ((length files == 1) && (length (filter (λ word. bytes_eq word path) words) == 1)))
+    || (((length files == 1) && not (is_svg words)) && (length (filter (λ word. bytes_eq word path) words) == 1)))
 
 -- ---- what is seen
 
@@ -131,9 +135,9 @@ refusal_meaning refusal.Folder = codes "it is a folder: give the files in it"
 refusal_meaning refusal.Unknown = codes "the system can't read it: ls -l shows what it is"
 
 abbrev pub failure_meaning : Failure → Refusal → Text
-failure_meaning failure.TooManyFiles refused = codes "64 files are read at once: fold parts of them, and then the folds, as docs/RECIPES.md does"
+failure_meaning failure.TooManyFiles refused = codes "at most 64 files are read at once: fold parts of them, and then the folds"
 failure_meaning (failure.Unreadable source) refused = refusal_meaning refused
-failure_meaning (failure.TooLarge source) refused = codes "1073741824 bytes of a file are read: fold parts of it, as docs/RECIPES.md does"
+failure_meaning (failure.TooLarge source) refused = codes "at most 1073741824 bytes of a file are read: fold parts of it, and then the folds"
 failure_meaning failure.OutOfMemory refused = no_memory
 failure_meaning failure.NoThread refused = codes "the system gave no more threads: read fewer files"
 failure_meaning (failure.Unfinished source) refused = codes "not all of it came through: run it again"
@@ -182,7 +186,7 @@ naming words files path other = codes "; these are its types: flamecollect types
 
 -- how what is no folded text is read
 abbrev pub reading_profile : List Text → List Text → Text
-reading_profile words files = if nat_le (length files) 1 && is_quotable words
+reading_profile words files = if (nat_le (length files) 1 && is_quotable words) && not (has_format words)
     then codes "; it begins as a pprof profile does: " ++ command_text None [] (format_text words) words
     else codes "; it begins as a pprof profile does, and those are read with --format pprof"
 

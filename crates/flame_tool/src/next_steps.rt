@@ -3,7 +3,8 @@ ghost use Rattle.std.specs.Prelude.{◌≡◌, IfOk, map, string_bytes};
 ghost use Rattle.flame_tool.specs.NextSteps.{fault_meaning, fault_remedy, failure_meaning, meaning, naming, next_step, reading, reading_profile, refusal_meaning, remedy_for, strict_meaning, strict_remedy, unpacking, what_to_do};
 
 use crate::step_commands::{
-    can_pipe, command_text, format_text, is_quotable, pipe_word, source_word, type_words,
+    can_pipe, command_text, format_text, has_format, is_quotable, pipe_word, source_word,
+    type_words,
 };
 use byte_io::{PieceFault, Refusal};
 use profile_messages::SampleType;
@@ -129,11 +130,11 @@ fn failure_meaning(failure: Failure, refusal: Refusal) -> &'static str
 {
     match failure {
         Failure::TooManyFiles => {
-            "64 files are read at once: fold parts of them, and then the folds, as docs/RECIPES.md does"
+            "at most 64 files are read at once: fold parts of them, and then the folds"
         }
         Failure::Unreadable { source: _ } => refusal_meaning(refusal),
         Failure::TooLarge { source: _ } => {
-            "1073741824 bytes of a file are read: fold parts of it, as docs/RECIPES.md does"
+            "at most 1073741824 bytes of a file are read: fold parts of it, and then the folds"
         }
         Failure::OutOfMemory | Failure::Output(PieceFault::OutOfMemory) => {
             "the system gave no more memory: read fewer or smaller files"
@@ -273,7 +274,7 @@ fn reading_profile(alloc: Global, words: &[String], files: &[String]) -> Result<
     ensures { IfOk result (λ text. string_bytes text
         ≡ reading_profile (map string_bytes words.now) (map string_bytes files.now)) }
 {
-    if files.len() <= 1 && is_quotable(words) {
+    if files.len() <= 1 && is_quotable(words) && !has_format(words) {
         let command = command_text(alloc, words, None, "", format_text(words))?;
         format!(in alloc; "; it begins as a pprof profile does: {command}")
     } else {

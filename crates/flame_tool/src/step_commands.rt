@@ -2,7 +2,7 @@
 ghost use Rattle.std.specs.Prelude.{◌≡◌, IfOk, length, map, option_map, string_bytes};
 ghost use Rattle.std.specs.List.{filter, flat_map, list_all, list_any};
 ghost use Rattle.std.specs.Str.{bytes_eq};
-ghost use Rattle.flame_tool.specs.NextSteps.{asks_format, can_pipe, command_text, format_text, has_format, has_quote, is_plain, is_plain_byte, is_quotable, is_types, pipe_word, shell_word, source_word, type_word, word_text};
+ghost use Rattle.flame_tool.specs.NextSteps.{asks_format, can_pipe, command_text, format_text, has_format, has_quote, is_plain, is_plain_byte, is_quotable, is_svg, is_types, pipe_word, shell_word, source_word, type_word, word_text};
 
 use profile_messages::SampleType;
 use std::alloc::{AllocError, Global};
@@ -151,7 +151,8 @@ fn has_quote(word: &str) -> bool
 pub(crate) fn can_pipe(words: &[String], files: &[String], path: &str) -> bool
     ensures { result ≡ can_pipe (map string_bytes words.now) (map string_bytes files.now) path.now }
 {
-    is_quotable(words) && (files.is_empty() || (files.len() == 1 && count_of(words, path) == 1))
+    is_quotable(words)
+        && (files.is_empty() || (files.len() == 1 && !is_svg(words) && count_of(words, path) == 1))
 }
 
 // How many words are this one.
@@ -178,7 +179,7 @@ pub(crate) fn format_text(words: &[String]) -> &'static str
     }
 }
 
-fn has_format(words: &[String]) -> bool
+pub(crate) fn has_format(words: &[String]) -> bool
     ensures { result ≡ has_format (map string_bytes words.now) }
 {
     any_asks_format(words)
@@ -201,6 +202,16 @@ pub(crate) fn pipe_word(words: &[String]) -> &'static str
     ensures { result.now ≡ pipe_word (map string_bytes words.now) }
 {
     if is_types(words) { " /dev/stdin" } else { "" }
+}
+
+// The command writes beside its file, and a pipe has no such place.
+fn is_svg(words: &[String]) -> bool
+    ensures { result ≡ is_svg (map string_bytes words.now) }
+{
+    match words {
+        [] => false,
+        [name, ..] => name.as_str() == "svg",
+    }
 }
 
 // The command tells sample types, and has no options.

@@ -13,75 +13,29 @@ planned-requires c =
     let none = no_fault _ (map string_bytes c.args.words.now) c.in_ok-line.ensures c.in-Ok.ensures.kinds in
     entered_reads (map string_bytes c.args.words.now) none _ (entered_rows _ _ c.in-Ok.matches c.in_ok-line.ensures c.in-Ok.ensures.matches)
 
-pub returns-in-Ok-clause-plan : goal.returns-in-Ok-clause-plan
-returns-in-Ok-clause-plan c =
+pub returns-in-Ok : goal.returns-in-Ok
+returns-in-Ok c =
+    let words = map string_bytes c.args.words.now in
+    let none = no_fault _ words c.in_ok-line.ensures c.in-Ok.ensures.kinds in
     let rows = entered_rows _ _ c.in-Ok.matches c.in_ok-line.ensures c.in-Ok.ensures.matches in
-    subst (λ entered. IfOk c.planned.result (λ plan. entered_plan entered ≡ Some plan)) rows c.planned.ensures.plan
-
-pub returns-in-Ok-clause-taken : goal.returns-in-Ok-clause-taken
-returns-in-Ok-clause-taken c =
-    let none = no_fault _ (map string_bytes c.args.words.now) c.in_ok-line.ensures c.in-Ok.ensures.kinds in
-    let rows = entered_rows _ _ c.in-Ok.matches c.in_ok-line.ensures c.in-Ok.ensures.matches in
-    IfOk-weaker _ _ _ (λ plan is. sym (own_alone (map string_bytes c.args.words.now) _ none rows) ∙ planned_own (subcommand_rows_of c.in-Ok.matches) plan is) c.planned.ensures.plan
-
-pub returns-in-Ok-clause-refused : goal.returns-in-Ok-clause-refused
-returns-in-Ok-clause-refused c =
-    let none = no_fault _ (map string_bytes c.args.words.now) c.in_ok-line.ensures c.in-Ok.ensures.kinds in
-    let rows = entered_rows _ _ c.in-Ok.matches c.in_ok-line.ensures c.in-Ok.ensures.matches in
-    subst (λ kinds. IfErr c.planned.result (IsFaultAmong kinds)) (own_alone (map string_bytes c.args.words.now) _ none rows) c.planned.ensures.refused
-
-pub returns-in-Ok-clause-passes : goal.returns-in-Ok-clause-passes
-returns-in-Ok-clause-passes c = λ taken.
-    let rows = entered_rows _ _ c.in-Ok.matches c.in_ok-line.ensures c.in-Ok.ensures.matches in
-    c.planned.ensures.passes (none_in _ (subst (λ entered. is_empty (own_fault entered) ≡ true) (sym rows) (both _ _ taken).1))
-
-pub returns-in-Ok-clause-pair : goal.returns-in-Ok-clause-pair
-returns-in-Ok-clause-pair c =
-    let none = no_fault _ (map string_bytes c.args.words.now) c.in_ok-line.ensures c.in-Ok.ensures.kinds in
-    let read = entered_reads (map string_bytes c.args.words.now) none _ (entered_rows _ _ c.in-Ok.matches c.in_ok-line.ensures c.in-Ok.ensures.matches) in
-    IfOk-weaker _ _ _ (λ plan is. (plan_asks _ plan read is).pair) c.planned.ensures.plan
-
-pub returns-in-Ok-clause-every : goal.returns-in-Ok-clause-every
-returns-in-Ok-clause-every c =
-    let none = no_fault _ (map string_bytes c.args.words.now) c.in_ok-line.ensures c.in-Ok.ensures.kinds in
-    let read = entered_reads (map string_bytes c.args.words.now) none _ (entered_rows _ _ c.in-Ok.matches c.in_ok-line.ensures c.in-Ok.ensures.matches) in
-    IfOk-weaker _ _ _ (λ plan is. (plan_asks _ plan read is).every) c.planned.ensures.plan
-
-pub returns-in-Ok-clause-page : goal.returns-in-Ok-clause-page
-returns-in-Ok-clause-page c =
-    let none = no_fault _ (map string_bytes c.args.words.now) c.in_ok-line.ensures c.in-Ok.ensures.kinds in
-    let read = entered_reads (map string_bytes c.args.words.now) none _ (entered_rows _ _ c.in-Ok.matches c.in_ok-line.ensures c.in-Ok.ensures.matches) in
-    IfOk-weaker _ _ _ (λ plan is. (plan_asks _ plan read is).page) c.planned.ensures.plan
-
-pub returns-in-Ok-clause-picture : goal.returns-in-Ok-clause-picture
-returns-in-Ok-clause-picture c =
-    let none = no_fault _ (map string_bytes c.args.words.now) c.in_ok-line.ensures c.in-Ok.ensures.kinds in
-    let read = entered_reads (map string_bytes c.args.words.now) none _ (entered_rows _ _ c.in-Ok.matches c.in_ok-line.ensures c.in-Ok.ensures.matches) in
-    IfOk-weaker _ _ _ (λ plan is. (plan_asks _ plan read is).picture) c.planned.ensures.plan
-
-pub returns-in-Ok-clause-alone : goal.returns-in-Ok-clause-alone
-returns-in-Ok-clause-alone c =
-    let none = no_fault _ (map string_bytes c.args.words.now) c.in_ok-line.ensures c.in-Ok.ensures.kinds in
-    let read = entered_reads (map string_bytes c.args.words.now) none _ (entered_rows _ _ c.in-Ok.matches c.in_ok-line.ensures c.in-Ok.ensures.matches) in
-    IfOk-weaker _ _ _ (λ plan is. (plan_asks _ plan read is).alone) c.planned.ensures.plan
-
-pub returns-in-Ok-clause-types : goal.returns-in-Ok-clause-types
-returns-in-Ok-clause-types c =
-    let none = no_fault _ (map string_bytes c.args.words.now) c.in_ok-line.ensures c.in-Ok.ensures.kinds in
-    let read = entered_reads (map string_bytes c.args.words.now) none _ (entered_rows _ _ c.in-Ok.matches c.in_ok-line.ensures c.in-Ok.ensures.matches) in
-    IfOk-weaker _ _ _ (λ plan is. (plan_asks _ plan read is).types) c.planned.ensures.plan
-
-pub returns-in-Ok-clause-live : goal.returns-in-Ok-clause-live
-returns-in-Ok-clause-live c =
-    let none = no_fault _ (map string_bytes c.args.words.now) c.in_ok-line.ensures c.in-Ok.ensures.kinds in
-    let read = entered_reads (map string_bytes c.args.words.now) none _ (entered_rows _ _ c.in-Ok.matches c.in_ok-line.ensures c.in-Ok.ensures.matches) in
-    IfOk-weaker _ _ _ (λ plan is. (plan_asks _ plan read is).live) c.planned.ensures.plan
-
-pub returns-in-Ok-clause-pages : goal.returns-in-Ok-clause-pages
-returns-in-Ok-clause-pages c =
-    let none = no_fault _ (map string_bytes c.args.words.now) c.in_ok-line.ensures c.in-Ok.ensures.kinds in
-    let read = entered_reads (map string_bytes c.args.words.now) none _ (entered_rows _ _ c.in-Ok.matches c.in_ok-line.ensures c.in-Ok.ensures.matches) in
-    IfOk-weaker _ _ _ (λ plan is. (plan_asks _ plan read is).pages) c.planned.ensures.plan
+    let own = own_alone words _ none rows in
+    let read = entered_reads words none _ rows in
+    let is_plan = c.planned.ensures.plan in
+    record {
+      plan = subst (λ entered. IfOk c.planned.result (λ plan. entered_plan entered ≡ Some plan)) rows is_plan;
+      taken = IfOk-weaker _ _ _ (λ plan is. sym own ∙ planned_own (subcommand_rows_of c.in-Ok.matches) plan is) is_plan;
+      refused = subst (λ kinds. IfErr c.planned.result (IsFaultAmong kinds)) own c.planned.ensures.refused;
+      passes = λ taken.
+          c.planned.ensures.passes (none_in _ (subst (λ entered. is_empty (own_fault entered) ≡ true) (sym rows) (both _ _ taken).1));
+      pair = IfOk-weaker _ _ _ (λ plan is. (plan_asks _ plan read is).pair) is_plan;
+      every = IfOk-weaker _ _ _ (λ plan is. (plan_asks _ plan read is).every) is_plan;
+      page = IfOk-weaker _ _ _ (λ plan is. (plan_asks _ plan read is).page) is_plan;
+      picture = IfOk-weaker _ _ _ (λ plan is. (plan_asks _ plan read is).picture) is_plan;
+      alone = IfOk-weaker _ _ _ (λ plan is. (plan_asks _ plan read is).alone) is_plan;
+      types = IfOk-weaker _ _ _ (λ plan is. (plan_asks _ plan read is).types) is_plan;
+      live = IfOk-weaker _ _ _ (λ plan is. (plan_asks _ plan read is).live) is_plan;
+      pages = IfOk-weaker _ _ _ (λ plan is. (plan_asks _ plan read is).pages) is_plan;
+    }
 
 pub returns-in-Err-clause-refused : goal.returns-in-Err-clause-refused
 returns-in-Err-clause-refused c =
