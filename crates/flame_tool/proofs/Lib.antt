@@ -1,6 +1,7 @@
 mod DrawnRuns
 mod EachSaid
 mod ExitStatuses
+mod FirstSaid
 mod GrownFunctions
 mod KnownSources
 mod LiveEndings

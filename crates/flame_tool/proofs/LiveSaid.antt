@@ -23,9 +23,9 @@ use Rattle.source_views.specs.declared.failures.Failure.{Failure}
 use Rattle.source_views.specs.declared.failures.Failure.TheVariants.{TooManyFiles, Unreadable, TooLarge, OutOfMemory, NoThread, Unfinished, Faults, Output}
 use Rattle.source_views.proofs.MessageTexts.{tells_more}
 use Rattle.flame_tool.specs.LiveRuns.{read_text}
-use Rattle.flame_tool.specs.ToldLive.{IsOfFailure, IsOfSome, IsSaidBefore, IsSaidOfEach, TellsLiveFailure, TellsStreams, TellsSuch, is_stopped, message_of_stream, message_of_text, stream_count}
+use Rattle.flame_tool.specs.ToldLive.{IsOfEnded, IsOfFailure, IsOfSome, IsSaidBefore, IsSaidOfEach, TellsLiveFailure, TellsStreams, TellsSuch, is_stopped, message_of_stream, message_of_text, stream_count}
 use Rattle.flame_tool.specs.checked.LiveEnds.{is_faulty, status_by, strict_list_fault}
-use Rattle.flame_tool.specs.checked.LiveSaying.{IsTellableList, SaidFirst, SaidOfEnds, SaidOfLost, SaysEnds, SaysLost, SaysSuch, message_of_list}
+use Rattle.flame_tool.specs.checked.LiveSaying.{IsTellableList, SaidFirst, SaidOfEnds, SaidOfFirst, SaidOfLost, SaysEnds, SaysLost, SaysSuch, message_of_list}
 use Rattle.flame_tool.specs.checked.LiveStreams.{ReadsAs}
 use Rattle.flame_tool.proofs.EachSaid.{BothAt, as_many_zipped, both_at, said_alike}
 use Rattle.flame_tool.proofs.KnownSources.{neither}
@@ -42,7 +42,7 @@ said_whole true files at text list same =
 said_whole false files at text list same = ap (λ (rest : Rest). message_of_ending files at rest.ending) same
 
 -- of one that may be stopped
-said_by : (plan : Plan) (is_lost : Bool) (at : ℕ) (text : List ℕ) (list : ListState) (stopped : Bool) → (stopped ≡ false → seen_as_rest list ≡ read_text plan.is_strict text)
+pub said_by : (plan : Plan) (is_lost : Bool) (at : ℕ) (text : List ℕ) (list : ListState) (stopped : Bool) → (stopped ≡ false → seen_as_rest list ≡ read_text plan.is_strict text)
     → (if stopped then (if is_lost then [] else message_of_failure plan.files (Unreadable at))
     else (if plan.is_strict then message_of_strict_fault plan.files at (strict_list_fault list) else message_of_ending plan.files at list.ending))
     ≡ (if stopped then (if is_lost then [] else message_of_failure plan.files (Unreadable at)) else message_of_text plan at text)
@@ -151,57 +151,62 @@ module _ (plan : Plan) (Says : List ℕ → Type 0) (texts : List (List ℕ)) (r
 
 -- ---- before a failure
 
-pub first_mapped : (untold some some' lost lost' : Type 0) → (some → some') → (lost → lost') → (failure : Failure) → SaidFirst untold some lost failure → SaidFirst untold some' lost' failure
-first_mapped untold some some' lost lost' few more TooManyFiles said = said
-first_mapped untold some some' lost lost' few more (Unreadable source) said = said
-first_mapped untold some some' lost lost' few more (TooLarge source) said = said
-first_mapped untold some some' lost lost' few more OutOfMemory said = few said
-first_mapped untold some some' lost lost' few more NoThread said = few said
-first_mapped untold some some' lost lost' few more (Unfinished source) said = few said
-first_mapped untold some some' lost lost' few more Faults said = said
-first_mapped untold some some' lost lost' few more (Output fault) said = more said
+pub first_mapped : (untold some some' first first' lost lost' : Type 0) → (some → some') → (first → first') → (lost → lost') → (failure : Failure) → SaidFirst untold some first lost failure → SaidFirst untold some' first' lost' failure
+first_mapped untold some some' first first' lost lost' few those more TooManyFiles said = said
+first_mapped untold some some' first first' lost lost' few those more (Unreadable source) said = said
+first_mapped untold some some' first first' lost lost' few those more (TooLarge source) said = said
+first_mapped untold some some' first first' lost lost' few those more OutOfMemory said = (few said.0, those said.1)
+first_mapped untold some some' first first' lost lost' few those more NoThread said = (few said.0, those said.1)
+first_mapped untold some some' first first' lost lost' few those more (Unfinished source) said = few said
+first_mapped untold some some' first first' lost lost' few those more Faults said = said
+first_mapped untold some some' first first' lost lost' few those more (Output fault) said = more said
 
 -- where not all was collected some was
-pub uncollected_said : (untold some lost : Type 0) (fault : CollectFault) → some → SaidFirst untold some lost (failure_of_collect fault)
-uncollected_said untold some lost collect.OutOfMemory said = said
-uncollected_said untold some lost collect.NoThread said = said
-uncollected_said untold some lost (collect.Unfinished source) said = said
+pub uncollected_said : (untold some first lost : Type 0) (fault : CollectFault) → some → (((source : ℕ) → fault ≢ collect.Unfinished source) → first) → SaidFirst untold some first lost (failure_of_collect fault)
+uncollected_said untold some first lost collect.OutOfMemory said those = (said, those (λ source is. cc))
+uncollected_said untold some first lost collect.NoThread said those = (said, those (λ source is. cc))
+uncollected_said untold some first lost (collect.Unfinished source) said those = said
 
 -- and where a stream was not opened nothing
-pub opening_untold : (count : ℕ) (untold some lost : Type 0) (failure : Failure) → IsOpening count failure → untold → (untold → some) → SaidFirst untold some lost failure
-opening_untold count untold some lost TooManyFiles opening said none = said
-opening_untold count untold some lost (Unreadable source) opening said none = said
-opening_untold count untold some lost (TooLarge source) opening said none = said
-opening_untold count untold some lost OutOfMemory opening said none = none said
-opening_untold count untold some lost NoThread opening said none = none said
-opening_untold count untold some lost (Unfinished source) opening said none = none said
-opening_untold count untold some lost Faults opening said none = absurd opening
-opening_untold count untold some lost (Output fault) opening said none = absurd opening
+pub opening_untold : (count : ℕ) (untold some first lost : Type 0) (failure : Failure) → IsOpening count failure → untold → (untold → some) → (untold → first) → SaidFirst untold some first lost failure
+opening_untold count untold some first lost TooManyFiles opening said none nothing = said
+opening_untold count untold some first lost (Unreadable source) opening said none nothing = said
+opening_untold count untold some first lost (TooLarge source) opening said none nothing = said
+opening_untold count untold some first lost OutOfMemory opening said none nothing = (none said, nothing said)
+opening_untold count untold some first lost NoThread opening said none nothing = (none said, nothing said)
+opening_untold count untold some first lost (Unfinished source) opening said none nothing = none said
+opening_untold count untold some first lost Faults opening said none nothing = absurd opening
+opening_untold count untold some first lost (Output fault) opening said none nothing = absurd opening
 
 -- nothing was said of any stream
 pub none_said : (plan : Plan) (count : ℕ) → IsOfSome plan count []
 none_said plan count = record { ends = λ at. (ends.Clean 0, 0); is_lost = λ at. false; order = []; some = record { once = λ at. omega arith; no_other = λ at past. refl }; is = refl }
 
 -- the exit status is none of a run that went to its end
-pub failed_high : (untold some lost : Type 0) (failure : Failure) → SaidFirst untold some lost failure → status_of failure ≤ 1 → ⊥
-failed_high untold some lost TooManyFiles said low = omega (arith, low)
-failed_high untold some lost (Unreadable source) said low = omega (arith, low)
-failed_high untold some lost (TooLarge source) said low = omega (arith, low)
-failed_high untold some lost OutOfMemory said low = omega (arith, low)
-failed_high untold some lost NoThread said low = omega (arith, low)
-failed_high untold some lost (Unfinished source) said low = omega (arith, low)
-failed_high untold some lost Faults said low = said
-failed_high untold some lost (Output fault) said low = omega (arith, low)
+pub failed_high : (untold some first lost : Type 0) (failure : Failure) → SaidFirst untold some first lost failure → status_of failure ≤ 1 → ⊥
+failed_high untold some first lost TooManyFiles said low = omega (arith, low)
+failed_high untold some first lost (Unreadable source) said low = omega (arith, low)
+failed_high untold some first lost (TooLarge source) said low = omega (arith, low)
+failed_high untold some first lost OutOfMemory said low = omega (arith, low)
+failed_high untold some first lost NoThread said low = omega (arith, low)
+failed_high untold some first lost (Unfinished source) said low = omega (arith, low)
+failed_high untold some first lost Faults said low = said
+failed_high untold some first lost (Output fault) said low = omega (arith, low)
 
-many_of : (untold some lost : Type 0) (failure : Failure) → status_of failure ≡ 2 → SaidFirst untold some lost failure → (failure ≡ TooManyFiles) × untold
-many_of untold some lost TooManyFiles two said = (refl, said)
-many_of untold some lost (Unreadable source) two said = absurd (omega (arith, two))
-many_of untold some lost (TooLarge source) two said = absurd (omega (arith, two))
-many_of untold some lost OutOfMemory two said = absurd (omega (arith, two))
-many_of untold some lost NoThread two said = absurd (omega (arith, two))
-many_of untold some lost (Unfinished source) two said = absurd (omega (arith, two))
-many_of untold some lost Faults two said = absurd said
-many_of untold some lost (Output fault) two said = absurd (omega (arith, two))
+many_of : (untold some first lost : Type 0) (failure : Failure) → status_of failure ≡ 2 → SaidFirst untold some first lost failure → (failure ≡ TooManyFiles) × untold
+many_of untold some first lost TooManyFiles two said = (refl, said)
+many_of untold some first lost (Unreadable source) two said = absurd (omega (arith, two))
+many_of untold some first lost (TooLarge source) two said = absurd (omega (arith, two))
+many_of untold some first lost OutOfMemory two said = absurd (omega (arith, two))
+many_of untold some first lost NoThread two said = absurd (omega (arith, two))
+many_of untold some first lost (Unfinished source) two said = absurd (omega (arith, two))
+many_of untold some first lost Faults two said = absurd said
+many_of untold some first lost (Output fault) two said = absurd (omega (arith, two))
+
+-- how some streams ended, or what there is to say of some
+ended : {plan : Plan} {Says : List ℕ → Type 0} (known : Option (List (List ℕ))) → SaysSuch (IsOfSome plan (stream_count plan.files)) Says → IfSome known (SaidOfFirst plan Says) → SaysSuch (IsOfEnded plan known) Says
+ended None some first = some
+ended (Some texts) some first = first
 
 -- ---- the end of a run
 
@@ -209,10 +214,10 @@ module _ {E : Type 0} (contents : E → Option (List ℕ)) (failures : E → ℕ
   abbrev Gains : E → E → List ℕ → Type 0
   Gains from to text = Tells text (contents from) (contents to) (failures from) (failures to)
 
-  pub many_told : (plan : Plan) (start mid new : E) (some lost : Type 0) (failure : Failure) → status_of failure ≡ 2 → SaidFirst (mid ≡ start) some lost failure
+  pub many_told : (plan : Plan) (start mid new : E) (some first lost : Type 0) (failure : Failure) → status_of failure ≡ 2 → SaidFirst (mid ≡ start) some first lost failure
       → Gains mid new (message_of_failure plan.files failure) → Gains start new (message_of_failure plan.files TooManyFiles)
-  many_told plan start mid new some lost failure two first told =
-      let many = many_of (mid ≡ start) some lost failure two first in
+  many_told plan start mid new some those lost failure two first told =
+      let many = many_of (mid ≡ start) some those lost failure two first in
       subst (λ err. Gains err new (message_of_failure plan.files TooManyFiles)) many.1 (subst (λ failure. Gains mid new (message_of_failure plan.files failure)) many.0 told)
 
   pub alone_told : (Is : Failure → Type 0) (files : List (List ℕ)) (start mid new : E) (failure : Failure) → Is failure → mid ≡ start → Gains mid new (message_of_failure files failure)
@@ -228,7 +233,7 @@ module _ {E : Type 0} (contents : E → Option (List ℕ)) (failures : E → ℕ
     Fails = TellsLiveFailure plan known (contents start) (contents new) (failures start) (failures new)
 
     -- nothing was said before
-    unopened : (failure : Failure) → IsSaidBefore plan failure [] → mid ≡ start → Gains mid new (message_of_failure plan.files failure) → Fails
+    unopened : (failure : Failure) → IsSaidBefore plan known failure [] → mid ≡ start → Gains mid new (message_of_failure plan.files failure) → Fails
     unopened failure is_first same told = inl (record {
       said = message_of_failure plan.files failure;
       is_such = record { failure = failure; first = []; is_first = is_first; is = refl };
@@ -236,20 +241,26 @@ module _ {E : Type 0} (contents : E → Option (List ℕ)) (failures : E → ℕ
     })
 
     -- or how some streams ended
-    behind : (failure : Failure) (some : SaysSuch (λ said. IsSaidBefore plan failure said) (Gains start mid)) → Gains mid new (message_of_failure plan.files failure) → Fails
+    behind : (failure : Failure) (some : SaysSuch (λ said. IsSaidBefore plan known failure said) (Gains start mid)) → Gains mid new (message_of_failure plan.files failure) → Fails
     behind failure some told = inl (record {
       said = some.said ++ message_of_failure plan.files failure;
       is_such = record { failure = failure; first = some.said; is_first = some.is_such; is = refl };
       told = tells_more some.said (message_of_failure plan.files failure) (contents start) (contents mid) (contents new) (failures start) (failures mid) (failures new) some.says told;
     })
 
-    pub failed_told : (failure : Failure) → status_of failure ≡ 3 → SaidFirst (mid ≡ start) (SaysSuch (IsOfSome plan (stream_count plan.files)) (Gains start mid)) (IfSome known (SaidOfLost plan (Gains start mid))) failure
+    abbrev EndedSome : Type 0
+    EndedSome = SaysSuch (IsOfSome plan (stream_count plan.files)) (Gains start mid)
+
+    abbrev EndedFirst : Type 0
+    EndedFirst = IfSome known (SaidOfFirst plan (Gains start mid))
+
+    pub failed_told : (failure : Failure) → status_of failure ≡ 3 → SaidFirst (mid ≡ start) EndedSome EndedFirst (IfSome known (SaidOfLost plan (Gains start mid))) failure
         → Gains mid new (message_of_failure plan.files failure) → Fails
     failed_told TooManyFiles three first told = absurd (omega (arith, three))
     failed_told (Unreadable source) three first told = unopened (Unreadable source) refl first told
     failed_told (TooLarge source) three first told = unopened (TooLarge source) refl first told
-    failed_told OutOfMemory three first told = behind OutOfMemory first told
-    failed_told NoThread three first told = behind NoThread first told
+    failed_told OutOfMemory three first told = behind OutOfMemory (ended known first.0 first.1) told
+    failed_told NoThread three first told = behind NoThread (ended known first.0 first.1) told
     failed_told (Unfinished source) three first told = behind (Unfinished source) first told
     failed_told Faults three first told = absurd first
     failed_told (Output fault) three first told =

@@ -48,7 +48,7 @@ pub record SeenOf (is_strict : Bool) (text : List ℕ) (list : ListState) : Type
 unstopped : (ending : SourceEnd) → is_stopped ending ≡ false → (after : ℕ) → ending ≢ ends.Stopped after
 unstopped ending goes after is = true≢false (sym (ap is_stopped is) ∙ goes)
 
-seen : (is_strict : Bool) (text : List ℕ) (rest : Rest) (list : ListState) (source : ℕ) → ReadsAs is_strict text rest → IsCollected anywhere anywhere source rest (seen_as_rest list) → SeenOf is_strict text list
+pub seen : (is_strict : Bool) (text : List ℕ) (rest : Rest) (list : ListState) (source : ℕ) → ReadsAs is_strict text rest → IsCollected anywhere anywhere source rest (seen_as_rest list) → SeenOf is_strict text list
 seen is_strict text rest list source reads (IsCollected.Whole goes same) = record {
   whole = λ goes. same ∙ reads.whole (λ after is. unstopped list.ending goes after (ap (λ (rest : Rest). rest.ending) same ∙ is));
   first = subst (λ (rest : Rest). IsPrefixOf rest.samples (read_text is_strict text).samples) (sym same) reads.first;

@@ -32,13 +32,13 @@ use Rattle.flame_tool.proofs.EachSaid.{first_or, held_at, said_alike, said_in_or
 abbrev no_end : ToldEnd
 no_end = record { source = 0; ending = ends.Clean 0; count = 1; is_lost = false }
 
-abbrev seen_end : ToldEnd → EndOfSource
+abbrev pub seen_end : ToldEnd → EndOfSource
 seen_end end = (end.ending, end.count)
 
-abbrev by_source : List ToldEnd → List (ℕ × ToldEnd)
+abbrev pub by_source : List ToldEnd → List (ℕ × ToldEnd)
 by_source told = map (λ end. (end.source, end)) told
 
-seen_of : (source : ℕ) (told : List ToldEnd) → of_source source (heard_of_each told) ≡ map seen_end (of_source source (by_source told))
+pub seen_of : (source : ℕ) (told : List ToldEnd) → of_source source (heard_of_each told) ≡ map seen_end (of_source source (by_source told))
 seen_of source [] = refl
 seen_of source (end ∷ told) = elim (cases_eq end.source source) [
   | inl same ↦ of_source_at source end.source (seen_end end) (heard_of_each told) same
@@ -51,20 +51,20 @@ as_many_seen : (source : ℕ) (told : List ToldEnd) → length (of_source source
 as_many_seen source told = sym (length-map (of_source source (by_source told)) seen_end) ∙ sym (ap length (seen_of source told))
 
 -- where they stand, and what stands there
-abbrev order_of : List ToldEnd → List ℕ
+abbrev pub order_of : List ToldEnd → List ℕ
 order_of told = sources_of (by_source told)
 
-abbrev end_at : List ToldEnd → ℕ → ToldEnd
+abbrev pub end_at : List ToldEnd → ℕ → ToldEnd
 end_at told source = held_at no_end (by_source told) source
 
 -- whether the output had failed before the end of a source
 abbrev pub lost_at : List ToldEnd → ℕ → Bool
 lost_at told source = (end_at told source).is_lost
 
-often : (source : ℕ) (told : List ToldEnd) → count_of source (order_of told) ≡ length (of_source source (heard_of_each told))
+pub often : (source : ℕ) (told : List ToldEnd) → count_of source (order_of told) ≡ length (of_source source (heard_of_each told))
 often source told = sym (length-of_source source (by_source told)) ∙ as_many_seen source told
 
-seen_held : (xs : List ToldEnd) (end : EndOfSource) → map seen_end xs ≡ end ∷ [] → seen_end (first_or no_end xs) ≡ end
+pub seen_held : (xs : List ToldEnd) (end : EndOfSource) → map seen_end xs ≡ end ∷ [] → seen_end (first_or no_end xs) ≡ end
 seen_held [] end is = absurd (cc)
 seen_held (x ∷ xs) end is = cc
 
@@ -74,11 +74,11 @@ none_held (x ∷ xs) is = absurd (cc)
 
 -- ---- what was said of them
 
-abbrev told_message : Plan → ℕ → ToldEnd → List ℕ
+abbrev pub told_message : Plan → ℕ → ToldEnd → List ℕ
 told_message plan at end = message_of_counted plan end.is_lost at (end.ending, end.count)
 
 module _ (plan : Plan) (told : List ToldEnd) (few : (source : ℕ) → length (of_source source (heard_of_each told)) ≤ 1) where
-  said_by_source : said_of_told plan told ≡ flat_map (λ at. told_message plan at (end_at told at)) (order_of told)
+  pub said_by_source : said_of_told plan told ≡ flat_map (λ at. told_message plan at (end_at told at)) (order_of told)
   said_by_source =
       sym (flat_map-map (λ (pair : ℕ × ToldEnd). told_message plan pair.0 pair.1) (λ (end : ToldEnd). (end.source, end)) told)
       ∙ said_of_pairs no_end (told_message plan) (by_source told) (λ at. subst (λ n. n ≤ 1) (sym (as_many_seen at told)) (few at))
@@ -125,7 +125,7 @@ module _ (plan : Plan) (at : ℕ) where
   by_strictness false samples ending tellable = refl
 
   -- so an end is said as its list is
-  said_as_list : (is_lost : Bool) (list : ListState) → IsTellableList plan.is_strict list → message_of_counted plan is_lost at (end_of list) ≡ message_of_end plan is_lost at (end_of list)
+  pub said_as_list : (is_lost : Bool) (list : ListState) → IsTellableList plan.is_strict list → message_of_counted plan is_lost at (end_of list) ≡ message_of_end plan is_lost at (end_of list)
   said_as_list is_lost list tellable = ap (λ text. if is_stopped list.ending then (if is_lost then [] else message_of_failure plan.files (Unreadable at)) else text) (by_strictness plan.is_strict (length list.samples) list.ending tellable)
 
   silent : (is_strict : Bool) → (if is_strict then message_of_strict_fault plan.files at (strict_ending_fault 1 (ends.Clean 0)) else message_of_ending plan.files at (ends.Clean 0)) ≡ []

@@ -63,6 +63,16 @@ fault_shown : (plan : Plan) (known : Option (List (Format × List ℕ))) → IfS
 fault_shown plan None faulty = tt
 fault_shown plan (Some sources) faulty = λ _. fault_in_shown plan.from plan.omit (asked_rests plan.options sources) faulty
 
+-- ---- what is said of a result only where something else holds
+
+pub ok_where : {T E : Type 0} (Q P : Type 0) (result : Result T E) → (Q → OnOk result P) → OnOk result (Q → P)
+ok_where Q P (Ok value) holds = holds
+ok_where Q P (Err error) holds = tt
+
+pub err_where : {T E : Type 0} (Q : Type 0) (P : E → Type 0) (result : Result T E) → (Q → IfErr result P) → IfErr result (λ error. Q → P error)
+err_where Q P (Ok value) holds = tt
+err_where Q P (Err error) holds = holds
+
 -- ---- a plan that asks for no samples
 
 module _ (plan : Plan) (old new : Option (List ℕ)) (types : plan.form ≡ form.Types) where

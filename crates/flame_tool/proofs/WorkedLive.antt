@@ -1,5 +1,5 @@
 -- Worked examples of what a live run says of its streams, computed on the definitions.
-use Rattle.std.proofs.Common.{◌≡◌, ℕ, List, [], ◌∷◌, codes, refl, Option, Some, option_map, true, false}
+use Rattle.std.proofs.Common.{◌≡◌, ◌++◌, ℕ, List, [], ◌∷◌, arith, codes, refl, Option, Some, option_map, true, false}
 use Rattle.std.specs.Prelude.{◌==◌, Bool}
 use Rattle.std.specs.Fmt.{digits}
 use Rattle.std.specs.List.{flat_map}
@@ -9,8 +9,8 @@ use Rattle.folded_lines.proofs.Computing.{computing}
 use Rattle.byte_io.specs.declared.piece_output.PieceFault.TheVariants as piece
 use Rattle.command_line.specs.Plans.{plan_of}
 use Rattle.source_views.specs.Messages.{message_of_failure}
-use Rattle.source_views.specs.declared.failures.Failure.TheVariants.{Output}
-use Rattle.flame_tool.specs.ToldLive.{message_of_stream, message_of_text, said_at}
+use Rattle.source_views.specs.declared.failures.Failure.TheVariants.{OutOfMemory, Output}
+use Rattle.flame_tool.specs.ToldLive.{SomeOnce, message_of_stream, message_of_text, said_at}
 
 -- what words ask to be said of texts that are read to their ends, in this order
 abbrev said_by : List ℕ → List Text → List Text → Option Text
@@ -58,3 +58,13 @@ lost = refl
 
 output_failed : message_of_failure (codes "x" ∷ []) (Output piece.Output) ≡ codes "flamecollect: output failed\n"
 output_failed = refl
+
+-- where there is no memory, that stands behind what there is to say of those that had ended
+early : option_map (λ said. said ++ message_of_failure [] OutOfMemory) (said_by (1 ∷ []) (codes "live" ∷ codes "x" ∷ codes "y" ∷ []) (codes "a 1\nb\n" ∷ codes "a 1\nb 1.5\n" ∷ []))
+    ≡ Some (codes "flamecollect: y: DecimalWeight at 2\nflamecollect: out of memory\n")
+unfolding clap_on_literals computing digits
+early = refl
+
+-- of none twice
+none_twice : SomeOnce 2 (1 ∷ 1 ∷ []) → ⊥
+none_twice some = let two = some.once 1 in omega (arith, two)

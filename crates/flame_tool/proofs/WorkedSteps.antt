@@ -36,6 +36,10 @@ two_files : next_step (codes "diff" ∷ codes "a.pb" ∷ codes "b.pb" ∷ []) (c
     ≡ line (codes "it is compressed by gzip: gzip -dc FILE > FILE.pb, and read FILE.pb in its place")
 two_files = refl
 
+a_picture : next_step (codes "svg" ∷ codes "a.pb.gz" ∷ []) (codes "a.pb.gz" ∷ []) 0 (trouble.Fault kind.Compressed) seen.Nothing
+    ≡ line (codes "it is compressed by gzip: gzip -dc FILE > FILE.pb, and read FILE.pb in its place")
+a_picture = refl
+
 unknown_type : next_step (codes "fold" ∷ codes "--type" ∷ codes "x" ∷ codes "a.pb" ∷ codes "b.pb" ∷ []) (codes "a.pb" ∷ codes "b.pb" ∷ []) 1 (trouble.Fault kind.UnknownSampleType)
     (seen.Types (sample_type (codes "cpu") (codes "nanoseconds") ∷ sample_type (codes "wall clock") (codes "seconds") ∷ []))
     ≡ line (codes "it has no such sample type, but these: cpu 'wall clock'")
@@ -52,6 +56,10 @@ no_samples = refl
 no_stacks : next_step (codes "graph" ∷ codes "--page" ∷ codes "profile" ∷ []) (codes "profile" ∷ []) 0 trouble.NoSamples seen.Nothing
     ≡ line (codes "no line of it is a stack and a count")
 no_stacks = refl
+
+asked_as_text : next_step (codes "fold" ∷ codes "--format" ∷ codes "folded" ∷ codes "a.pb" ∷ []) (codes "a.pb" ∷ []) 0 trouble.NoSamples seen.Profile
+    ≡ line (codes "no line of it is a stack and a count; it begins as a pprof profile does, and those are read with --format pprof")
+asked_as_text = refl
 
 two_profiles : next_step (codes "diff" ∷ codes "a" ∷ codes "b" ∷ []) (codes "a" ∷ codes "b" ∷ []) 1 trouble.NoSamples seen.Profile
     ≡ line (codes "no line of it is a stack and a count; it begins as a pprof profile does, and those are read with --format pprof")

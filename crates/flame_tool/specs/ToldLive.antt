@@ -97,6 +97,18 @@ message_of_end plan is_lost at end = if is_stopped end.0
     else (if plan.is_strict then message_of_strict_fault plan.files at (strict_ending_fault end.1 end.0)
     else message_of_ending plan.files at end.0)
 
+-- what is said of some of a list, each at most once
+pub record IsSaidOfSome {A : Type 0} (say : ℕ → A → List ℕ) (xs : List A) (said : List ℕ) : Type 0 where
+  pub order : List ℕ
+  pub some : SomeOnce (length xs) order
+  pub is : said ≡ flat_map (said_at say xs) order
+
+-- of some of the streams of texts what there is to say of them
+pub record IsOfFirst (plan : Plan) (texts : List (List ℕ)) (said : List ℕ) : Type 0 where
+  pub is_lost : ℕ → Bool
+  pub is_cut : ℕ → Bool
+  pub is : IsSaidOfSome (message_of_stream plan is_lost is_cut) texts said
+
 -- what is said of some of so many streams, each at most once, which ended so
 pub record IsOfSome (plan : Plan) (count : ℕ) (said : List ℕ) : Type 0 where
   pub ends : ℕ → SourceEnd × ℕ
@@ -110,22 +122,27 @@ abbrev pub stream_count : List (List ℕ) → ℕ
 stream_count [] = 1
 stream_count (file ∷ files) = length (file ∷ files)
 
+-- how some streams ended; over texts that are known, what there is to say of some of them
+abbrev pub IsOfEnded : Plan → Option (List (List ℕ)) → List ℕ → Type 0
+IsOfEnded plan None said = IsOfSome plan (stream_count plan.files) said
+IsOfEnded plan (Some texts) said = IsOfFirst plan texts said
+
 -- what is said before a run fails so: nothing where a stream was not opened, and where not all was collected how some of them ended before
-abbrev pub IsSaidBefore : Plan → Failure → List ℕ → Type 0
-IsSaidBefore plan TooManyFiles said = ⊥
-IsSaidBefore plan (Unreadable source) said = said ≡ []
-IsSaidBefore plan (TooLarge source) said = said ≡ []
-IsSaidBefore plan OutOfMemory said = IsOfSome plan (stream_count plan.files) said
-IsSaidBefore plan NoThread said = IsOfSome plan (stream_count plan.files) said
-IsSaidBefore plan (Unfinished source) said = IsOfSome plan (stream_count plan.files) said
-IsSaidBefore plan Faults said = ⊥
-IsSaidBefore plan (Output fault) said = ⊥
+abbrev pub IsSaidBefore : Plan → Option (List (List ℕ)) → Failure → List ℕ → Type 0
+IsSaidBefore plan known TooManyFiles said = ⊥
+IsSaidBefore plan known (Unreadable source) said = said ≡ []
+IsSaidBefore plan known (TooLarge source) said = said ≡ []
+IsSaidBefore plan known OutOfMemory said = IsOfEnded plan known said
+IsSaidBefore plan known NoThread said = IsOfEnded plan known said
+IsSaidBefore plan known (Unfinished source) said = IsOfSome plan (stream_count plan.files) said
+IsSaidBefore plan known Faults said = ⊥
+IsSaidBefore plan known (Output fault) said = ⊥
 
 -- that, and behind it the message of the failure
-pub record IsOfEarly (plan : Plan) (said : List ℕ) : Type 0 where
+pub record IsOfEarly (plan : Plan) (known : Option (List (List ℕ))) (said : List ℕ) : Type 0 where
   pub failure : Failure
   pub first : List ℕ
-  pub is_first : IsSaidBefore plan failure first
+  pub is_first : IsSaidBefore plan known failure first
   pub is : said ≡ first ++ message_of_failure plan.files failure
 
 -- where a file can't be opened, no file before it is known to be absent, and nothing is known of its bytes
@@ -156,5 +173,5 @@ pub record IsOfFailure (Is : Failure → Type 0) (files : List (List ℕ)) (said
 -- known, in its place among what is said of the streams, or behind it
 abbrev pub TellsLiveFailure : Plan → Option (List (List ℕ)) → Option (List ℕ) → Option (List ℕ) → ℕ → ℕ → Type 0
 TellsLiveFailure plan known old new before after =
-    TellsSuch (IsOfEarly plan) old new before after
+    TellsSuch (IsOfEarly plan known) old new before after
     ⊎ IfSome known (λ texts. TellsSuch (λ said. IsOfUnread plan texts said ⊎ IsOfLost plan texts said) old new before after)

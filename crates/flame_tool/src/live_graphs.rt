@@ -1,5 +1,5 @@
 //! The graphs of streams, drawn while their samples come.
-ghost use Rattle.std.specs.Prelude.{◌≡◌, ◌≢◌, ◌≤◌, [], All, IfErr, IfOk, IfSome, OnOk, Some, length};
+ghost use Rattle.std.specs.Prelude.{◌≡◌, ◌≢◌, ◌≤◌, ℕ, [], All, IfErr, IfOk, IfSome, OnOk, Some, length};
 ghost use Rattle.std.specs.List.{list_any, zip};
 ghost use Rattle.command_line.specs.Plans.{IsOfStreams};
 ghost use Rattle.ring_collect.specs.Collection.{GiveSuch};
@@ -8,7 +8,7 @@ ghost use Rattle.stack_core.specs.RowReading.{GivesSome};
 ghost use Rattle.flame_tool.specs.ToldLive.{IsOfSome, is_stopped};
 ghost use Rattle.flame_tool.specs.checked.Drawings.{DrawsAll, DrawsSome};
 ghost use Rattle.flame_tool.specs.checked.LiveEnds.{EndsLive, FailsLive, form_of, is_faulty_end, status_by_ends};
-ghost use Rattle.flame_tool.specs.checked.LiveSaying.{AreSomeTold, SaidFirst, SaysEnds, SaysLost, SaysSuch};
+ghost use Rattle.flame_tool.specs.checked.LiveSaying.{AreFirstTold, AreSomeTold, SaidFirst, SaysEnds, SaysFirst, SaysLost, SaysSuch};
 
 use crate::end_reports::{EndReports, is_stopped, report_rest};
 use crate::hosts::Host;
@@ -55,6 +55,8 @@ pub(crate) fn send_graphs<
     ensures told_first { IfErr result (SaidFirst (err.new ≡ err.old)
         (SaysSuch (IsOfSome plan.now (length readers.items)) (λ said. Tells said
         (E.contents err.old) (E.contents err.new) (E.failures err.old) (E.failures err.new)))
+        (GiveSuch (λ reader. R.gives reader) readers.items (SaysFirst plan.now (λ said. Tells said
+        (E.contents err.old) (E.contents err.new) (E.failures err.old) (E.failures err.new))))
         (GiveSuch (λ reader. R.gives reader) readers.items (SaysLost plan.now (λ said. Tells said
         (E.contents err.old) (E.contents err.new) (E.failures err.old) (E.failures err.new))))) }
     ensures ended { IfOk result (λ status. status ≢ 2) }
@@ -126,6 +128,8 @@ fn draw<
     ensures err { IfErr result.1 (λ fault. GiveSuch (λ reader. R.gives reader) readers.items
         (DrawsSome parts.merge.form parts.width parts.every (W.contents out.old) (W.contents out.new) fault)) }
     ensures some { AreSomeTold (length readers.items) (S.told result.0) }
+    ensures first { IfErr result.1 (λ fault. ((source : ℕ) → fault ≢ CollectFault.Unfinished source)
+        → GiveSuch (λ reader. R.gives reader) readers.items (AreFirstTold (S.told result.0))) }
     ensures setting { S.setting result.0 ≡ S.setting ends }
     ensures flushed { IfOk result.1 (λ drawn. OnOk drawn.sent (W.is_flushed out.new)) }
     ensures unfailed { IfOk result.1 (λ drawn. OnOk drawn.sent

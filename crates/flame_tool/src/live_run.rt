@@ -10,7 +10,7 @@ ghost use Rattle.flame_tool.specs.Runs.{FailsUntouched};
 ghost use Rattle.flame_tool.specs.ToldLive.{IsOfSome, IsUnopened, stream_count};
 ghost use Rattle.flame_tool.specs.checked.LiveEnds.{TellsTexts, live_status};
 ghost use Rattle.flame_tool.specs.checked.LivePlans.{IsLivePlan};
-ghost use Rattle.flame_tool.specs.checked.LiveSaying.{SaidFirst, SaidOfEnds, SaidOfLost, SaysSuch};
+ghost use Rattle.flame_tool.specs.checked.LiveSaying.{SaidFirst, SaidOfEnds, SaidOfFirst, SaidOfLost, SaysSuch};
 
 use crate::hosts::Host;
 use crate::live_graphs::send_graphs;
@@ -117,6 +117,9 @@ fn show_live<
     ensures says_first { IfErr result (SaidFirst (err.new ≡ err.old)
         (SaysSuch (IsOfSome plan.now (stream_count plan.now.files)) (λ said. Tells said
         (E.contents err.old) (E.contents err.new) (E.failures err.old) (E.failures err.new)))
+        (IfSome (known_texts plan.now.files (S.known_input streams.old) (S.known_file streams.old))
+        (SaidOfFirst plan.now (λ said. Tells said
+        (E.contents err.old) (E.contents err.new) (E.failures err.old) (E.failures err.new))))
         (IfSome (known_texts plan.now.files (S.known_input streams.old) (S.known_file streams.old))
         (SaidOfLost plan.now (λ said. Tells said
         (E.contents err.old) (E.contents err.new) (E.failures err.old) (E.failures err.new))))) }

@@ -4,10 +4,8 @@ ghost use Rattle.command_line.specs.Plans.{IsComparison, IsOfOneProfile};
 ghost use Rattle.flame_tool.specs.KnownFacts.{known_sources};
 ghost use Rattle.flame_tool.specs.KnownRuns.{PlanShows, as_files, change};
 ghost use Rattle.flame_tool.specs.Runs.{Shows};
-ghost use Rattle.flame_tool.specs.TypeRuns.{known_profile, ShowsTypes};
-ghost use Rattle.flame_tool.specs.checked.TypeFailures.{FailsTypes};
-ghost use Rattle.flame_tool.specs.checked.Saying.{SaidOfTypes};
-ghost use Rattle.flame_tool.specs.checked.Showed.{Showed};
+ghost use Rattle.flame_tool.specs.TypeRuns.{known_profile};
+ghost use Rattle.flame_tool.specs.checked.Showed.{Showed, ShowedTypes};
 
 use crate::advice::Advice;
 use crate::exits::end_run;
@@ -73,15 +71,11 @@ fn show_plan<T: Threads + Wait + Copy + Send + 'static, F: Files, W: Outlet, E: 
         (change (W.contents out.old) (W.contents out.new) (W.failures out.old) (W.failures out.new))
         (change (E.contents err.old) (E.contents err.new) (E.failures err.old) (E.failures err.new))
         (W.is_flushed out.new) result }
-    ensures types { OnOk result (plan.now.form ≡ Form.Types
-        → IfSome (known_profile plan.now (F.known_file files.old))
-        (ShowsTypes (W.contents out.old) (W.contents out.new))) }
-    ensures types_err { IfErr result (λ failure. plan.now.form ≡ Form.Types
-        → IfSome (known_profile plan.now (F.known_file files.old))
-        (FailsTypes (W.contents out.old) (W.contents out.new) failure)) }
-    ensures says_types { F.may_have_terminal ≡ false → plan.now.form ≡ Form.Types → SaidOfTypes
-        (E.contents err.old) (E.contents err.new) (E.failures err.old) (E.failures err.new)
-        plan.now.files (known_profile plan.now (F.known_file files.old)) result }
+    ensures typed { plan.now.form ≡ Form.Types → ShowedTypes
+        (known_profile plan.now (F.known_file files.old)) plan.now.files (F.may_have_terminal ≡ false)
+        (change (W.contents out.old) (W.contents out.new) (W.failures out.old) (W.failures out.new))
+        (change (E.contents err.old) (E.contents err.new) (E.failures err.old) (E.failures err.new))
+        (W.is_flushed out.new) result }
     ensures many { IsErrOf result Failure.TooManyFiles → 64 < length plan.now.files }
     ensures few { result ≢ Err Failure.TooManyFiles → length plan.now.files ≤ 64 }
     ensures untold_many { IsErrOf result Failure.TooManyFiles → err.new ≡ err.old }

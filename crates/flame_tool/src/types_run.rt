@@ -1,11 +1,10 @@
 //! The sample types of a profile, shown in place of its samples.
-ghost use Rattle.std.specs.Prelude.{◌≡◌, false, IfErr, IfOk, IfSome, IsErrOf, OnOk, Some, length, map, string_bytes};
+ghost use Rattle.std.specs.Prelude.{◌≡◌, false, IfOk, Some, length, map, string_bytes};
 ghost use Rattle.view_texts.specs.Types.{types_text};
-ghost use Rattle.flame_tool.specs.TypeRuns.{known_profile, ShowsTypes};
-ghost use Rattle.flame_tool.specs.checked.Failures.{KeepsOutput};
 ghost use Rattle.source_views.specs.Failures.{Flushes, Sends};
-ghost use Rattle.flame_tool.specs.checked.Saying.{SaidOfTypes};
-ghost use Rattle.flame_tool.specs.checked.TypeFailures.{FailsTypes};
+ghost use Rattle.flame_tool.specs.KnownRuns.{change};
+ghost use Rattle.flame_tool.specs.TypeRuns.{known_profile};
+ghost use Rattle.flame_tool.specs.checked.Showed.{ShowedTypes};
 
 use crate::advice::Advice;
 use crate::next_steps::Trouble;
@@ -27,20 +26,11 @@ pub(crate) fn show_types<F: Files, W: Outlet, E: Outlet>(
     words: &[String],
 ) -> Result<bool, Failure>
     requires one { length plan.now.files ≡ 1 }
-    ensures ok { OnOk result (IfSome (known_profile plan.now (F.known_file files.old))
-        (ShowsTypes (W.contents out.old) (W.contents out.new))) }
-    ensures err { IfErr result (λ failure.
-        IfSome (known_profile plan.now (F.known_file files.old))
-        (FailsTypes (W.contents out.old) (W.contents out.new) failure)) }
-    ensures kept { IfErr result (λ failure.
-        KeepsOutput (W.contents out.old) (W.contents out.new) failure) }
-    ensures none { IfOk result (λ is_over. is_over ≡ false) }
-    ensures says { F.may_have_terminal ≡ false → SaidOfTypes
-        (E.contents err.old) (E.contents err.new) (E.failures err.old) (E.failures err.new)
-        plan.now.files (known_profile plan.now (F.known_file files.old)) result }
-    ensures few { IsErrOf result Failure.TooManyFiles → ⊥ }
-    ensures flushed { Flushes (W.is_flushed out.new) (W.failures out.old) (W.failures out.new)
-        result }
+    ensures { ShowedTypes (known_profile plan.now (F.known_file files.old)) plan.now.files
+        (F.may_have_terminal ≡ false)
+        (change (W.contents out.old) (W.contents out.new) (W.failures out.old) (W.failures out.new))
+        (change (E.contents err.old) (E.contents err.new) (E.failures err.old) (E.failures err.new))
+        (W.is_flushed out.new) result }
 {
     let paths = plan.files.get();
     let source = open_named(alloc, files, 0, &paths[0], plan.format)?;
@@ -57,18 +47,11 @@ fn show_types_of<W: Outlet, E: Outlet>(
     err: &mut E,
     advice: Advice<'_>,
 ) -> Result<bool, Failure>
-    ensures ok { OnOk result (ShowsTypes (W.contents out.old) (W.contents out.new) profile.now) }
-    ensures err { IfErr result (λ failure.
-        FailsTypes (W.contents out.old) (W.contents out.new) failure profile.now) }
-    ensures kept { IfErr result (λ failure.
-        KeepsOutput (W.contents out.old) (W.contents out.new) failure) }
-    ensures none { IfOk result (λ is_over. is_over ≡ false) }
-    ensures says { advice.entry.is_wanted ≡ false → SaidOfTypes
-        (E.contents err.old) (E.contents err.new) (E.failures err.old) (E.failures err.new)
-        (map string_bytes paths.now) (Some profile.now) result }
-    ensures few { IsErrOf result Failure.TooManyFiles → ⊥ }
-    ensures flushed { Flushes (W.is_flushed out.new) (W.failures out.old) (W.failures out.new)
-        result }
+    ensures { ShowedTypes (Some profile.now) (map string_bytes paths.now)
+        (advice.entry.is_wanted ≡ false)
+        (change (W.contents out.old) (W.contents out.new) (W.failures out.old) (W.failures out.new))
+        (change (E.contents err.old) (E.contents err.new) (E.failures err.old) (E.failures err.new))
+        (W.is_flushed out.new) result }
 {
     match sample_types(alloc, profile) {
         Ok(types) => send_types(alloc, &types, out),

@@ -22,12 +22,14 @@ cut_lines = 27 ∷ codes "[?7l"
 abbrev pub wrap_lines : List ℕ
 wrap_lines = 27 ∷ codes "[?7h"
 
--- how many samples of how many sources came
-abbrev pub sources_word : ℕ → List ℕ
-sources_word sources = if sources == 1 then codes " source\n" else codes " sources\n"
+-- the one word of one, and the other of any other count
+abbrev pub word_of : ℕ → List ℕ → List ℕ → List ℕ
+word_of count one many = if count == 1 then one else many
 
+-- how many samples of how many sources came
 abbrev pub frame_heading : ℕ → ℕ → List ℕ
-frame_heading at sources = weight_text [] at ++ (codes " samples of " ++ (decimal sources ++ sources_word sources))
+frame_heading at sources =
+    weight_text [] at ++ (word_of at (codes " sample of ") (codes " samples of ") ++ (decimal sources ++ word_of sources (codes " source\n") (codes " sources\n")))
 
 -- the table of the 10 functions with the greatest weights of their own, as `top` writes it
 abbrev pub frame_table : List Sample → List ℕ

@@ -5,7 +5,7 @@ ghost use Rattle.sample_tables.specs.Samples.{total_weight};
 ghost use Rattle.sample_tables.specs.declared.samples.Sample.{Sample};
 ghost use Rattle.function_sums.specs.FunctionSums.{AreFunctionSums};
 ghost use Rattle.run_options.specs.declared.orders.FunctionOrder.TheVariants.{Own};
-ghost use Rattle.live_lines.specs.Frames.{clear_frame, frame_heading, frame_of, frame_table, sources_word, table_of};
+ghost use Rattle.live_lines.specs.Frames.{clear_frame, frame_heading, frame_of, frame_table, table_of, word_of};
 
 use crate::terminal::append_plain;
 use function_sums::{FunctionSum, Telling, append_sum_table};
@@ -88,20 +88,17 @@ fn append_heading(out: &mut Vec<u8>, standing: Standing) -> Result<(), AllocErro
 {
     let mut digits = Buffer::new();
     append_weight(out, standing.at, "")?;
-    out.extend_from_slice(b" samples of ")?;
+    out.extend_from_slice(word_of(standing.at, b" sample of ", b" samples of "))?;
     out.extend_from_slice(digits.format(standing.sources).as_bytes())?;
-    out.extend_from_slice(sources_word(standing.sources))?;
+    let sources = standing.sources as u64;
+    out.extend_from_slice(word_of(sources, b" source\n", b" sources\n"))?;
     Ok(())
 }
 
-fn sources_word(sources: usize) -> &'static [u8]
-    ensures { result.now ≡ sources_word sources }
+fn word_of(count: u64, one: &'static [u8], many: &'static [u8]) -> &'static [u8]
+    ensures { result.now ≡ word_of count one.entry.now many.entry.now }
 {
-    if sources == 1 {
-        b" source\n"
-    } else {
-        b" sources\n"
-    }
+    if count == 1 { one } else { many }
 }
 
 fn append_table(

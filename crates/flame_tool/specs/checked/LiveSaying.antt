@@ -1,18 +1,19 @@
 -- What was told of what was collected of streams, and what that says of their texts.
-use Rattle.std.specs.Prelude.{◌≡◌, ◌≤◌, ◌-◌, ◌^◌, ℕ, Bool, true, false, All, List, [], ◌∷◌, Some, length, min, slice_get}
+use Rattle.std.specs.Prelude.{◌≡◌, ◌≤◌, ◌⊎◌, ◌-◌, ◌^◌, ℕ, Bool, true, false, All, List, [], ◌∷◌, Some, length, min, slice_get}
 use Rattle.std.specs.List.{flat_map}
 use Rattle.stack_core.specs.Interleaving.{of_source}
 use Rattle.stack_core.specs.Ledgers.{ListState}
 use Rattle.stack_core.specs.Reading.{Rest}
+use Rattle.stack_core.specs.Told.{IsCollected}
 use Rattle.stack_core.specs.declared.endings.SourceEnd.{SourceEnd}
 use Rattle.folded_lines.specs.StrictStreams.{IsTellable}
 use Rattle.command_line.specs.declared.plans.Plan.{Plan}
-use Rattle.ring_collect.specs.Collection.{Collects}
+use Rattle.ring_collect.specs.Collection.{Collects, EndOfSource}
 use Rattle.source_views.specs.Messages.{said_of_each}
 use Rattle.source_views.specs.declared.failures.Failure.{Failure}
 use Rattle.source_views.specs.declared.failures.Failure.TheVariants.{TooManyFiles, Unreadable, TooLarge, OutOfMemory, NoThread, Unfinished, Faults, Output}
 use Rattle.live_lines.specs.Ends.{ToldEnd, heard_of_each}
-use Rattle.flame_tool.specs.ToldLive.{IsOfUnread, IsSaidOfEach, message_of_end, message_of_stream, message_of_text}
+use Rattle.flame_tool.specs.ToldLive.{IsOfFirst, IsOfUnread, IsSaidOfEach, message_of_end, message_of_stream, message_of_text}
 use Rattle.flame_tool.specs.checked.LiveEnds.{anywhere, status_of_ends}
 
 -- ---- ends
@@ -37,6 +38,15 @@ said_of_told plan told = flat_map (λ end. message_of_counted plan end.is_lost e
 pub record AreSomeTold (count : ℕ) (told : List ToldEnd) : Type 0 where
   pub once : (source : ℕ) → length (of_source source (heard_of_each told)) ≤ 1
   pub no_other : (source : ℕ) → count ≤ source → of_source source (heard_of_each told) ≡ []
+
+-- of a source with this rest nothing was told, or how it ended, behind all that was collected of it
+abbrev pub IsEndTold : ℕ → Rest → List EndOfSource → Type 0
+IsEndTold source rest ends = (ends ≡ []) ⊎ ((list : Rest) × IsCollected anywhere anywhere source rest list × (ends ≡ (list.ending, length list.samples) ∷ []))
+
+-- so of each of sources with these rests
+pub record AreFirstTold (told : List ToldEnd) (rests : List Rest) : Type 0 where
+  pub each : (source : ℕ) (rest : Rest) → slice_get rests source ≡ Some rest → IsEndTold source rest (of_source source (heard_of_each told))
+  pub no_other : (source : ℕ) → length rests ≤ source → of_source source (heard_of_each told) ≡ []
 
 -- ---- lists
 
@@ -81,6 +91,12 @@ SaysEnds plan Says status rests = SaysOfLists plan (λ _. false) Says (λ lists.
 abbrev pub SaysLost : Plan → (List ℕ → Type 0) → List Rest → Type 0
 SaysLost plan Says rests = (is_lost : ℕ → Bool) × SaysOfLists plan is_lost Says (λ lists. Unit {0}) rests
 
+-- of a run that failed before all was collected
+pub record SaysFirst (plan : Plan) (Says : List ℕ → Type 0) (rests : List Rest) : Type 0 where
+  pub told : List ToldEnd
+  pub are : AreFirstTold told rests
+  pub says : Says (said_of_told plan told)
+
 -- the same of texts
 pub record SaidOfEnds (plan : Plan) (Says : List ℕ → Type 0) (status : ℕ) (texts : List (List ℕ)) : Type 0 where
   pub low : status ≤ 1 → SaysSuch (IsSaidOfEach (message_of_text plan) texts) Says
@@ -89,13 +105,16 @@ pub record SaidOfEnds (plan : Plan) (Says : List ℕ → Type 0) (status : ℕ) 
 abbrev pub SaidOfLost : Plan → (List ℕ → Type 0) → List (List ℕ) → Type 0
 SaidOfLost plan Says texts = (is_lost : ℕ → Bool) × (is_cut : ℕ → Bool) × SaysSuch (IsSaidOfEach (message_of_stream plan is_lost is_cut) texts) Says
 
+abbrev pub SaidOfFirst : Plan → (List ℕ → Type 0) → List (List ℕ) → Type 0
+SaidOfFirst plan Says texts = SaysSuch (IsOfFirst plan texts) Says
+
 -- before a failure nothing was told where a stream was not opened, and some where not all was collected; and a fault is none
-abbrev pub SaidFirst : Type 0 → Type 0 → Type 0 → Failure → Type 0
-SaidFirst untold some lost TooManyFiles = untold
-SaidFirst untold some lost (Unreadable source) = untold
-SaidFirst untold some lost (TooLarge source) = untold
-SaidFirst untold some lost OutOfMemory = some
-SaidFirst untold some lost NoThread = some
-SaidFirst untold some lost (Unfinished source) = some
-SaidFirst untold some lost Faults = ⊥
-SaidFirst untold some lost (Output fault) = lost
+abbrev pub SaidFirst : Type 0 → Type 0 → Type 0 → Type 0 → Failure → Type 0
+SaidFirst untold some first lost TooManyFiles = untold
+SaidFirst untold some first lost (Unreadable source) = untold
+SaidFirst untold some first lost (TooLarge source) = untold
+SaidFirst untold some first lost OutOfMemory = some × first
+SaidFirst untold some first lost NoThread = some × first
+SaidFirst untold some first lost (Unfinished source) = some
+SaidFirst untold some first lost Faults = ⊥
+SaidFirst untold some first lost (Output fault) = lost

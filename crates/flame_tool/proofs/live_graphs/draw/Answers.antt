@@ -4,13 +4,15 @@ use Rattle.std.proofs.lemmas.Result.{on_err_weaker, on_ok_weaker}
 use Rattle.std.specs.Io.KnownBytes.{Appends}
 use Rattle.byte_io.specs.Pieces.{AppendsFront}
 use Rattle.sample_tables.specs.declared.samples.Sample.{Sample}
-use Rattle.ring_collect.specs.Collection.{AnswersFeed, CollectsRun}
+use Rattle.ring_collect.specs.Collection.{AnswersFeed, CollectsRun, HearsFirst}
 use Rattle.ring_collect.proofs.GivenRests.{given_count}
+use Rattle.live_lines.specs.Ends.{heard_of_each}
 use Rattle.live_lines.specs.Lines.{live_counts, live_text}
 use Rattle.flame_tool.specs.checked.Drawings.{DrawsAll, DrawsSome}
 use Rattle.flame_tool.specs.checked.LiveEnds.{anywhere}
 use Rattle.flame_tool.specs.declared.live_graphs.Drawn.{Drawn}
 use Rattle.flame_tool.proofs.DrawnRuns.{all_told, none_is, some_told}
+use Rattle.flame_tool.proofs.FirstSaid.{first_told}
 use Rattle.flame_tool.proofs.LiveEndings.{ends_of_run}
 use Rattle.flame_tool.proofs.LiveSinks.{SameSetting, front_of_sink, same_setting}
 use Rattle.flame_tool.proofs.live_graphs.draw.Goals as goal
@@ -22,6 +24,20 @@ returns-in-Err-clause-some g c =
     let sink = c.new-sink.result in
     let sources = ap (λ merge. merge.sources) (c.new-sink.ensures.merge ∙ c.requires.merge) in
     some_told (length c.args.readers.items) (g.S.EndTeller.told sink.ends) (g.S.EndTeller.told c.feed_rows-fed.new.sink.ends) (ap g.S.EndTeller.told c.new-sink.ensures.ends ∙ c.requires.untold) (c.feed_rows-fed.ensures.ends (omega (arith, sources))).some
+
+pub returns-in-Err-clause-first : goal.returns-in-Err-clause-first
+returns-in-Err-clause-first g c = λ finished.
+    let sink = c.new-sink.result in
+    let left = c.feed_rows-fed.new.sink in
+    let merge = c.new-sink.ensures.merge ∙ c.requires.merge in
+    let sources = ap (λ merge. merge.sources) merge in
+    let given = (c.in-Err.ensures.ends (omega (arith, sources))).first (λ source is. finished source cc) in
+    record {
+      rests = given.rests;
+      are_given = given.are_given;
+      holds = first_told given.rests left.lines.merge.taken (g.S.EndTeller.told sink.ends) (g.S.EndTeller.told left.ends) (ap g.S.EndTeller.told c.new-sink.ensures.ends ∙ c.requires.untold)
+          (subst (λ (taken : List (ℕ × Sample)). HearsFirst anywhere anywhere given.rests taken left.lines.merge.taken (heard_of_each (g.S.EndTeller.told sink.ends)) (heard_of_each (g.S.EndTeller.told left.ends))) (ap (λ merge. merge.taken) merge) given.holds);
+    }
 
 pub returns-clause-some : goal.returns-clause-some
 returns-clause-some g c =

@@ -1,4 +1,4 @@
-use Rattle.std.proofs.Common.{◌≡◌, ◌∙◌, [], ap, false, length, map, refl, subst, sym}
+use Rattle.std.proofs.Common.{◌≡◌, ◌≢◌, ◌∙◌, [], ℕ, ap, false, length, map, refl, subst, sym}
 use Rattle.std.specs.List.{list_any, zip}
 use Rattle.std.specs.Prelude.{OnErr, OnOk}
 use Rattle.std.specs.Io.KnownBytes.{Appends}
@@ -8,8 +8,10 @@ use Rattle.source_views.specs.Messages.{Tells}
 use Rattle.source_views.specs.declared.failures.Failure.TheVariants.{OutOfMemory}
 use Rattle.source_views.proofs.MessageTexts.{tells_nothing}
 use Rattle.ring_collect.specs.Collection.{GiveSuch}
+use Rattle.ring_collect.specs.declared.faults.CollectFault.TheVariants.{Unfinished}
 use Rattle.flame_tool.specs.checked.Drawings.{DrawsAll, DrawsSome}
-use Rattle.flame_tool.specs.checked.LiveSaying.{end_of}
+use Rattle.flame_tool.specs.checked.LiveSaying.{AreFirstTold, end_of}
+use Rattle.flame_tool.proofs.FirstSaid.{first_in_all, none_told}
 use Rattle.flame_tool.proofs.DrawnRuns.{of_err, of_ok, said_in_all, some_in_all, says_ends, says_lost, tells_all}
 use Rattle.ring_collect.proofs.GivenRests.{any_given}
 use Rattle.live_lines.specs.Lines.{live_lines, live_text}
@@ -33,7 +35,10 @@ returns-in_err-parts-clause-err g c =
 
 pub returns-in_err-parts-clause-told_first : goal.returns-in_err-parts-clause-told_first
 returns-in_err-parts-clause-told_first g c =
-    err_because c.from_residual.result OutOfMemory _ c.from_residual.ensures.1 (record { said = []; is_such = none_said c.args.plan.now (length c.args.readers.items); says = tells_nothing _ _ })
+    err_because c.from_residual.result OutOfMemory _ c.from_residual.ensures.1 (
+      record { said = []; is_such = none_said c.args.plan.now (length c.args.readers.items); says = tells_nothing _ _ },
+      any_given (λ reader. g.R.RowReader.gives reader) c.args.readers.items c.requires.possible (λ rests same. record { told = []; are = none_told rests; says = tells_nothing _ _ }),
+    )
 
 -- ---- where not all was collected
 
@@ -68,11 +73,12 @@ returns-in_err-endings-clause-told_first g c =
     (same.contents_are ∙ ap known c.new-reports.ensures.start) (same.failures_are ∙ ap failures c.new-reports.ensures.start) left.said in
     let last = c.in_err-endings.err-1-own.given.1 (sym (same.name_is ∙ c.new-reports.ensures.outlet)) in
     let some = some_in_all left.is_at_once plan (length c.args.readers.items) left.told c.draw-reports.ensures.some in
-    err_because c.from_residual-in_err-endings.result (failure_of_collect c.in_err-endings.field-0.0) _ c.from_residual-in_err-endings.ensures.1 (uncollected_said _ _ _ c.in_err-endings.field-0.0 (record {
-      said = said_at_once left.is_at_once plan left.told;
-      is_such = some;
-      says = subst (λ err. Tells (said_at_once left.is_at_once plan left.told) (known c.args.err.now) (known err) (failures c.args.err.now) (failures err)) (sym last) said;
-    }))
+    let told = subst (λ err. Tells (said_at_once left.is_at_once plan left.told) (known c.args.err.now) (known err) (failures c.args.err.now) (failures err)) (sym last) said in
+    let fault = c.in_err-endings.field-0.0 in
+    let those = of_err c.draw-reports.result.1 fault (λ fault. ((source : ℕ) → fault ≢ Unfinished source) → GiveSuch (λ reader. g.R.RowReader.gives reader) c.args.readers.items (AreFirstTold left.told)) c.in_err-endings.was c.draw-reports.ensures.first in
+    err_because c.from_residual-in_err-endings.result (failure_of_collect fault) _ c.from_residual-in_err-endings.ensures.1 (uncollected_said _ _ _ _ fault
+    (record { said = said_at_once left.is_at_once plan left.told; is_such = some; says = told })
+    (λ finished. let given = those finished in record { rests = given.rests; are_given = given.are_given; holds = first_in_all left.is_at_once plan _ left.told given.rests given.holds told }))
 
 -- ---- where it was
 

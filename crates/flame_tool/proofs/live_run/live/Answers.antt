@@ -48,12 +48,12 @@ returns-in-Err g c =
       refused = search rules;
       front = search rules;
       absent = search rules;
-      told = λ low none. absurd (failed_high _ _ _ c.in-Err.failure c.in-Err.ensures.says_first (subst (λ status. status ≤ 1) c.status.ensures low));
+      told = λ low none. absurd (failed_high _ _ _ _ c.in-Err.failure c.in-Err.ensures.says_first (subst (λ status. status ≤ 1) c.status.ensures low));
       told_many = λ two.
           let many : 64 < length plan.files = c.in-Err.ensures.many (sym c.status.ensures ∙ two) in
           let some : length c.get-paths.result.now ≢ 0 = λ no. omega (arith, many, as_many_paths string_bytes c.get-paths.result.now plan.files c.get-paths.ensures, no) in
           subst (λ err. Tells (message_of_failure plan.files TooManyFiles) (g.E.Outlet.contents err) (g.E.Outlet.contents new) (g.E.Outlet.failures err) (g.E.Outlet.failures new)) (c.await_input.ensures.of_files some)
-          (many_told g.E.Outlet.contents g.E.Outlet.failures plan c.await_input.new.err c.show_live.new.err new _ _ failure (sym c.status.ensures ∙ two) c.in-Err.ensures.says_first
+          (many_told g.E.Outlet.contents g.E.Outlet.failures plan c.await_input.new.err c.show_live.new.err new _ _ _ failure (sym c.status.ensures ∙ two) c.in-Err.ensures.says_first
           (subst (λ files. Tells (message_of_failure files failure) (g.E.Outlet.contents c.show_live.new.err) (g.E.Outlet.contents new) (g.E.Outlet.failures c.show_live.new.err) (g.E.Outlet.failures new)) c.get-paths.ensures c.report_failure.ensures.told));
       told_failure = λ three none.
           subst (λ err. TellsLiveFailure plan known (g.E.Outlet.contents err) (g.E.Outlet.contents new) (g.E.Outlet.failures err) (g.E.Outlet.failures new)) (c.await_input.ensures.untold none)

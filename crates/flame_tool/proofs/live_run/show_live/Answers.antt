@@ -3,8 +3,10 @@ use Rattle.std.proofs.lemmas.Result.{IfErr-weaker, IfOk-weaker}
 use Rattle.source_views.specs.Failures.{IsOpening}
 use Rattle.source_views.specs.Messages.{Tells}
 use Rattle.flame_tool.specs.ToldLive.{IsMissing, IsOfSome, stream_count}
-use Rattle.flame_tool.specs.checked.LiveSaying.{SaidOfEnds, SaidOfLost, SaysEnds, SaysLost, SaysSuch}
+use Rattle.flame_tool.specs.checked.LiveSaying.{SaidOfEnds, SaidOfFirst, SaidOfLost, SaysEnds, SaysFirst, SaysLost, SaysSuch}
 use Rattle.flame_tool.specs.checked.LiveStreams.{AreOpened}
+use Rattle.flame_tool.specs.LiveRuns.{known_texts}
+use Rattle.flame_tool.proofs.FirstSaid.{first_said, none_first}
 use Rattle.flame_tool.proofs.LiveSaid.{as_many_paths, ended_said, err_and, first_mapped, lost_said, none_said, opening_untold}
 use Rattle.source_views.proofs.MessageTexts.{tells_nothing}
 use Rattle.flame_tool.proofs.LiveSinks.{err_because, none_shown}
@@ -19,11 +21,11 @@ returns-in_err-readers-clause-told g c =
 
 pub returns-in_err-readers-clause-says_first : goal.returns-in_err-readers-clause-says_first
 returns-in_err-readers-clause-says_first g c =
-    err_because c.from_residual.result c.in_err-readers.field-0.0 _ c.from_residual.ensures.1 (opening_untold _ _ _ _ c.in_err-readers.field-0.0 c.in_err-readers.ensures.err refl (λ same. record {
+    err_because c.from_residual.result c.in_err-readers.field-0.0 _ c.from_residual.ensures.1 (opening_untold _ _ _ _ _ c.in_err-readers.field-0.0 c.in_err-readers.ensures.err refl (λ same. record {
       said = [];
       is_such = none_said c.args.plan.now (stream_count c.args.plan.now.files);
       says = tells_nothing _ _;
-    }))
+    }) (λ same. none_first c.args.plan.now _ (known_texts c.args.plan.now.files (g.S.Streams.known_input c.args.streams.now) (g.S.Streams.known_file c.args.streams.now)) (tells_nothing _ _)))
 
 pub returns-in_err-readers-clause-unopened : goal.returns-in_err-readers-clause-unopened
 returns-in_err-readers-clause-unopened g c = λ absent.
@@ -62,7 +64,9 @@ returns-clause-says_first g c =
     let says : List ℕ → Type 0 = λ said. Tells said (g.E.Outlet.contents start) (g.E.Outlet.contents new) (g.E.Outlet.failures start) (g.E.Outlet.failures new) in
     let opened = subst (λ (paths : List (List ℕ)). AreOpened plan.is_strict (λ reader. g.R.RowReader.gives reader) input files paths readers) c.get.ensures c.in_ok-readers.ensures.opened in
     IfErr-weaker c.send_graphs.result _ _
-    (λ failure first. first_mapped _ _ _ _ _
+    (λ failure first. first_mapped _ _ _ _ _ _ _
     (λ some. subst (λ count. SaysSuch (IsOfSome plan count) says) (c.in_ok-readers.ensures.count ∙ ap stream_count c.get.ensures) some)
+    (λ given. known_tell plan.is_strict (λ reader. g.R.RowReader.gives reader) input files plan.files readers (SaysFirst plan says) (SaidOfFirst plan says) opened given
+    (λ texts rests reads those. first_said plan says texts rests reads those))
     (λ given. known_tell plan.is_strict (λ reader. g.R.RowReader.gives reader) input files plan.files readers (SaysLost plan says) (SaidOfLost plan says) opened given
     (λ texts rests reads lost. lost_said plan says texts rests reads lost)) failure first) c.send_graphs.ensures.told_first

@@ -19,6 +19,7 @@ use Rattle.flame_tool.proofs.RunEndings.{form_exactly, orderless, plainly}
 use Rattle.flame_tool.proofs.SaidSources.{EndsOfSources, EndsOfTypes, ends_of_sources, ends_of_types, failure_told}
 use Rattle.flame_tool.proofs.StrictEndings.{strict_at_one, strict_untouched}
 use Rattle.flame_tool.proofs.ToldEndings.{is_none}
+use Rattle.flame_tool.proofs.TypeEndings.{err_where, ok_where}
 use Rattle.flame_tool.proofs.UntouchedOutputs.{untouched_at_fault, untouched_at_table_fault}
 use Rattle.flame_tool.proofs.plan_run.run_plan.Goals as goal
 
@@ -47,7 +48,9 @@ returns g c =
     let said = λ (none : g.F.Files.may_have_terminal ≡ false) (samples : ShowsSamples plan.form). subst (λ start. EndsOfSources (contents start) (contents end) (failures start) (failures end) plan sources (exit_status result)) (c.await_input.ensures.untold none)
     (ends_of_sources contents failures plan sources _ mid end result (showed.says none samples) c.end_run.ensures.untold (told none)) in
     let said_types = λ (none : g.F.Files.may_have_terminal ≡ false) (types : plan.form ≡ form.Types). subst (λ start. EndsOfTypes (contents start) (contents end) (failures start) (failures end) plan.files profile (exit_status result)) (c.await_input.ensures.untold none)
-    (ends_of_types contents failures plan.files profile _ mid end result (ran.says_types none types) c.end_run.ensures.untold (told none)) in
+    (ends_of_types contents failures plan.files profile _ mid end result ((ran.typed types).says none) c.end_run.ensures.untold (told none)) in
+    let types = ok_where _ _ result (λ is. (ran.typed is).done) in
+    let types_err = err_where _ _ result (λ is. (ran.typed is).failed) in
     let grown = of_answer (λ is_over. IfSome sources (TellsGrowth is_over plan)) result showed.grown in
     subst (λ answer. PlanShows plan (as_files input named g.F.Files.may_have_terminal) answer (change old new before after) (change (contents start) (contents end) (failures start) (failures end)) (g.W.Outlet.is_flushed shown.new.out)) (sym c.end_run.ensures.status) (record {
       status = status_within result;
@@ -77,10 +80,10 @@ returns g c =
       limit = λ four. (of_answer (λ is_over. is_over ≡ true → IsSome (limit_of plan.view)) result showed.limit).1 four refl;
       grown = grown.1;
       not_grown = grown.0;
-      types = λ success. at_success result success ran.types;
-      types_faulty = λ one. types_faulty_at_one _ profile old new result one ran.types_err;
-      types_partly = λ three. types_front_at_three _ profile old new result three showed.kept ran.types_err;
-      types_untouched = untouched_at_table_fault _ old new before after _ profile result ran.types ran.types_err showed.kept showed.flushed;
+      types = λ success. at_success result success types;
+      types_faulty = λ one. types_faulty_at_one _ profile old new result one types_err;
+      types_partly = λ three. types_front_at_three _ profile old new result three showed.kept types_err;
+      types_untouched = untouched_at_table_fault _ old new before after _ profile result types types_err showed.kept showed.flushed;
       told = λ none low samples. (said none samples).low low;
       told_grown = λ none four samples. (said none samples).grown four;
       told_types = λ none zero types. (said_types none types).shown zero;
