@@ -18,7 +18,8 @@ class Misspelled(Exception):
 
 @dataclasses.dataclass
 class Answer:
-    """What must come: all of a stream, or parts of it; the status; what neither stream has; and what the counts of each line sum to."""
+    """What must come: all of a stream, of standard error perhaps with its lines in any order, or parts of it; the status; what neither
+    stream has; and what the counts of each line sum to."""
 
     out: bytes = b''
     err: bytes = b''
@@ -27,6 +28,7 @@ class Answer:
     err_has: list[bytes] = dataclasses.field(default_factory=list)
     lacks: list[bytes] = dataclasses.field(default_factory=list)
     counts: list[str] = dataclasses.field(default_factory=list)
+    is_any_order: bool = False
 
 
 @dataclasses.dataclass
@@ -103,8 +105,9 @@ class Texts:
         match mark:
             case '|':
                 answer.out += self.of_line(rest)
-            case '!':
+            case '!' | '!?':
                 answer.err += self.of_line(rest)
+                answer.is_any_order |= mark == '!?'
             case '|~':
                 answer.out_has.append(self.of_text(rest))
             case '!~':

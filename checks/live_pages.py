@@ -107,11 +107,13 @@ class PageLooks:
         same(data_in(page.read_bytes()), data_of(streams.samples, False), 'the last page')
 
     def page_links(self) -> None:
-        """A link stays one, and the page that it leads to keeps who may read it."""
+        """A link stays one, and the page that it leads to keeps who may read it. One where a page is written first is not followed."""
         folder = self.own_folder()
         (folder / 'real.html').write_bytes(BEFORE)
         (folder / 'real.html').chmod(0o640)
         (folder / 'live.html').symlink_to('real.html')
+        (folder / 'other.html').write_bytes(BEFORE)
+        (folder / 'real.html.part').symlink_to('other.html')
         streams = Streams(folder, 1)
         with Run(self.program, folder, ['--every', '2', '--page', 'live.html', *streams.names]) as run:
             same((folder / 'real.html').read_bytes(), BEFORE, 'what stood there')
@@ -119,6 +121,7 @@ class PageLooks:
             streams.end()
             same(run.end(), (0, ''), 'status and messages')
         same((folder / 'live.html').is_symlink(), True, 'the link')
+        same((folder / 'other.html').read_bytes(), BEFORE, 'what the other link leads to')
         same(oct((folder / 'real.html').stat().st_mode & 0o777), oct(0o640), 'who may read it')
 
     def pages_without_a_place(self) -> None:

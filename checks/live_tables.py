@@ -60,7 +60,8 @@ def text_of_lines(lines: Sequence[str]) -> bytes:
 
 
 def frame(samples: Sequence[Sample], sources: int, is_first: bool) -> bytes:
-    lines = [f'{said(len(samples))} samples of {sources} source{"s" if sources > 1 else ""}', *table(samples)]
+    count = f'{said(len(samples))} sample{"" if len(samples) == 1 else "s"}'
+    lines = [f'{count} of {sources} source{"s" if sources > 1 else ""}', *table(samples)]
     return (b'' if is_first else CLEAR) + CUT + text_of_lines([*lines, *[''] * (HEIGHT - len(lines))]) + WRAP
 
 
