@@ -20,7 +20,7 @@ use Rattle.run_options.specs.declared.choices.Naming.{Naming}
 use Rattle.run_options.specs.declared.formats.Format.{Format}
 use Rattle.run_options.specs.declared.formats.Format.TheVariants.{Folded, Pprof}
 use Rattle.run_options.specs.declared.options.Options.{Options}
-use Rattle.ring_collect.specs.Collection.{AreWhole, seen_as_rest}
+use Rattle.ring_collect.specs.Collection.{seen_as_rest}
 use Rattle.merged_stacks.specs.Timeline.{samples_of}
 use Rattle.command_line.specs.declared.plans.Plan.{Plan}
 use Rattle.source_lists.specs.FromNames.{rest_from}
@@ -32,7 +32,13 @@ use Rattle.flame_tool.specs.Pages.{shown_text}
 use Rattle.flame_tool.specs.Runs.{IsClean, IsFault, lists_of, wanted_lists, IsTextOf, Shows, HasFault}
 use Rattle.flame_tool.specs.StrictRuns.{has_strict_fault}
 use Rattle.flame_tool.specs.checked.Failures.{Fails, FailsToShow, TellsGrowth}
+use Rattle.flame_tool.specs.checked.SummedPlans.{is_summed}
+use Rattle.source_lists.specs.Summing.{IsFound, WeighAlike}
+use Rattle.flame_tool.proofs.FoundSources.{alike_found, faults_found}
+use Rattle.flame_tool.proofs.SomeOrder.{in_turn, turned}
 use Rattle.flame_tool.proofs.StrictSources.{clean_sources}
+use Rattle.flame_tool.proofs.SummedTexts.{alike_growth, alike_text}
+use Rattle.source_lists.proofs.FoundRests.{found_same}
 use Rattle.flame_tool.proofs.GrownFunctions.{is_said, tells_growth}
 use Rattle.source_views.specs.Texts.{growth_line}
 use Rattle.source_views.specs.Failures.{has_fault, ends_in_fault}
@@ -157,37 +163,50 @@ faults_of_rests [] = refl
 faults_of_rests (list ∷ lists) = ap (λ more. ends_in_fault list.ending || more) (faults_of_rests lists)
 
 -- where no source has a strict fault, no list has a fault, whatever is shown of its stacks
-pub lists_faultless : (plan : Plan) (sources : List (Format × List ℕ)) (lists : List ListState) → has_strict_fault plan.options sources ≡ false → AreWhole (shown_rests plan.from plan.omit (asked_rests plan.options sources)) lists
-    → has_fault lists ≡ false
-lists_faultless plan sources lists none whole =
-    faults_of_rests lists ∙ ap (λ rests. list_any (λ (rest : Rest). ends_in_fault rest.ending) rests) whole ∙ faults_shown plan.from plan.omit (asked_rests plan.options sources) ∙ clean_sources plan.options sources none
+pub lists_faultless : (plan : Plan) (sources : List (Format × List ℕ)) (lists : List ListState) → has_strict_fault plan.options sources ≡ false
+    → AllZip (IsFound (is_summed plan)) (shown_rests plan.from plan.omit (asked_rests plan.options sources)) (map seen_as_rest lists) → has_fault lists ≡ false
+lists_faultless plan sources lists none found =
+    faults_of_rests lists ∙ faults_found (is_summed plan) (shown_rests plan.from plan.omit (asked_rests plan.options sources)) (map seen_as_rest lists) found ∙ faults_shown plan.from plan.omit (asked_rests plan.options sources) ∙ clean_sources plan.options sources none
 
 -- ---- what a run over known sources shows
 
--- a plan's sources were collected whole
+-- a plan's sources were read to their ends
 pub record AreCollected (plan : Plan) (sources : List (Format × List ℕ)) (lists : List ListState) (order : List ℕ) : Type 0 where
-  pub whole : AreWhole (wanted_rests plan sources) lists
+  pub found : AllZip (IsFound (is_summed plan)) (wanted_rests plan sources) (map seen_as_rest lists)
   pub ordered : IsInterleaving order (samples_of lists)
 
 module _ (plan : Plan) (sources : List (Format × List ℕ)) (lists : List ListState) (order : List ℕ) (collected : AreCollected plan sources lists order) where
   abbrev text : List ℕ
   text = shown_text plan (facts_of plan.options sources) (samples_of lists) order plan.options.every
 
-  same_samples : samples_of lists ≡ wanted_lists plan sources
-  same_samples = samples_of_rests lists ∙ ap lists_of collected.whole
+  pub are_alike : AllZip WeighAlike (samples_of lists) (wanted_lists plan sources)
+  are_alike = alike_found (is_summed plan) (wanted_rests plan sources) lists collected.found
 
   same_faults : has_fault lists ≡ list_any (λ (rest : Rest). ends_in_fault rest.ending) (wanted_rests plan sources)
-  same_faults = faults_of_rests lists ∙ ap (λ rests. list_any (λ (rest : Rest). ends_in_fault rest.ending) rests) collected.whole
+  same_faults = faults_of_rests lists ∙ faults_found (is_summed plan) (wanted_rests plan sources) (map seen_as_rest lists) collected.found
 
   is_text : has_fault lists ≡ false → IsTextOf plan sources text
   is_text faultless = record {
     clean =
         clean_shown plan.from plan.omit (asked_rests plan.options sources)
         (clean_rests plan.options sources (sym (faults_shown plan.from plan.omit (asked_rests plan.options sources)) ∙ (sym same_faults ∙ faultless)));
-    order = order;
-    ordered = subst (λ (samples : List (List Sample)). IsInterleaving order samples) same_samples collected.ordered;
-    text_is = ap (λ samples. shown_text plan (facts_of plan.options sources) samples order plan.options.every) same_samples;
+    order = of_wanted.0;
+    ordered = of_wanted.1;
+    text_is = of_wanted.2;
   }
+    where
+      -- an order in which they may come, and the text in this order
+      HasText : Bool → Type 0
+      HasText summed = (other : List ℕ) × IsInterleaving other (wanted_lists plan sources) × (text ≡ shown_text plan (facts_of plan.options sources) (wanted_lists plan sources) other plan.options.every)
+
+      by_plan : (summed : Bool) → is_summed plan ≡ summed → AllZip (IsFound summed) (wanted_rests plan sources) (map seen_as_rest lists) → HasText summed
+      by_plan true summed found = (in_turn (wanted_lists plan sources), turned (wanted_lists plan sources), alike_text (samples_of lists) (wanted_lists plan sources) are_alike plan (facts_of plan.options sources) order (in_turn (wanted_lists plan sources)) summed)
+      by_plan false in_order found =
+          let same : samples_of lists ≡ wanted_lists plan sources = samples_of_rests lists ∙ ap lists_of (found_same (wanted_rests plan sources) (map seen_as_rest lists) found) in
+          (order, subst (λ (samples : List (List Sample)). IsInterleaving order samples) same collected.ordered, ap (λ samples. shown_text plan (facts_of plan.options sources) samples order plan.options.every) same)
+
+      of_wanted : HasText (is_summed plan)
+      of_wanted = by_plan (is_summed plan) refl collected.found
 
   -- by a text that is said in other words
   pub ok_shown : {T E : Type 0} (result : Result T E) (old new : Option (List ℕ)) (other : List ℕ) → other ≡ text → OnOk result (has_fault lists ≡ false) → OnOk result (Appends old new other)
@@ -197,7 +216,7 @@ module _ (plan : Plan) (sources : List (Format × List ℕ)) (lists : List ListS
 
   -- whether functions grew, by the line that names them
   pub growth_shown : (result : Result Bool Failure) → IfOk result (λ is_over. is_over ≡ is_said (growth_line plan.view (samples_of lists))) → IfOk result (λ is_over. TellsGrowth is_over plan sources)
-  growth_shown (Ok is_over) says = tells_growth plan sources (growth_line plan.view (samples_of lists)) is_over (ap (growth_line plan.view) same_samples) says
+  growth_shown (Ok is_over) says = tells_growth plan sources (growth_line plan.view (samples_of lists)) is_over (alike_growth (samples_of lists) (wanted_lists plan sources) are_alike plan.view) says
   growth_shown (Err failure) says = tt
 
   not_shown : (old new : Option (List ℕ)) (failure : Failure) → FailsToShow lists text old new failure → Fails plan old new failure sources

@@ -1,7 +1,9 @@
+mod AlikeSums
 mod DrawnRuns
 mod EachSaid
 mod ExitStatuses
 mod FirstSaid
+mod FoundSources
 mod GrownFunctions
 mod KnownSources
 mod LiveEndings
@@ -15,9 +17,12 @@ mod RenewedFiles
 mod ReportLemmas
 mod RunEndings
 mod SaidSources
+mod SomeOrder
 mod StepWords
 mod StrictEndings
 mod StrictSources
+mod SummedTexts
+mod SummedViews
 mod ToldEndings
 mod ToldEnds
 mod TypeEndings

@@ -4,7 +4,8 @@ use Rattle.std.specs.Prelude.{IsErrAnd, if◌then◌else◌}
 use Rattle.std.proofs.lemmas.Option.{IfSome_then}
 use Rattle.stack_core.specs.Ledgers.{ListState}
 use Rattle.run_options.specs.declared.formats.Format.{Format}
-use Rattle.ring_collect.specs.Collection.{AreWhole}
+use Rattle.std.specs.List.{AllZip}
+use Rattle.ring_collect.specs.Collection.{AreWhole, seen_as_rest}
 use Rattle.ring_collect.specs.declared.faults.CollectFault.TheVariants as collect
 use Rattle.source_lists.specs.Sources.{asked_rests, known_inputs}
 use Rattle.source_lists.specs.Strictness.{source_fault}
@@ -23,6 +24,9 @@ use Rattle.flame_tool.specs.ToldRuns.{TellsProfile, TellsFailure, TellsGrown, Te
 use Rattle.flame_tool.specs.checked.Failures.{exit_status}
 use Rattle.flame_tool.specs.checked.Saying.{TellsEndings, SaidBefore, SaidOfSources, SaidOfTypes}
 use Rattle.flame_tool.proofs.KnownSources.{at_known, if_known}
+use Rattle.flame_tool.specs.checked.SummedPlans.{is_summed}
+use Rattle.source_lists.specs.Summing.{IsFound}
+use Rattle.flame_tool.proofs.FoundSources.{found_strictly}
 use Rattle.flame_tool.proofs.ToldEndings.{told_of_read}
 
 -- ---- at the end
@@ -92,7 +96,7 @@ module _ (old new : Option (List ℕ)) (before after : ℕ) where
       said_mapped (Tells [] old new before after) (IfSome loaded (TellsSources plan old new before after)) (IfSome known (TellsSources plan old new before after)) (more (TellsSources plan old new before after)) failure said
 
   -- what was reported of sources that were read
-  module _ (plan : Plan) (kept inputs : List (Format × Option (List ℕ))) (lists told : List ListState) (whole : (sources : List (Format × List ℕ)) → known_inputs inputs ≡ Some sources → AreWhole (asked_rests plan.options sources) lists)
+  module _ (plan : Plan) (kept inputs : List (Format × Option (List ℕ))) (lists told : List ListState) (found : (sources : List (Format × List ℕ)) → known_inputs inputs ≡ Some sources → AllZip (IsFound (is_summed plan)) (asked_rests plan.options sources) (map seen_as_rest lists))
       (same : told ≡ lists) (looked_at : plan.is_strict ≡ true → kept ≡ inputs) where
     pub told_reported : (plan.is_strict ≡ false → TellsEndings plan.files old new before after (map (λ list. list.ending) told))
         → (plan.is_strict ≡ true → IfSome (known_inputs kept) (λ sources. AreWhole (asked_rests plan.options sources) told
@@ -107,8 +111,8 @@ module _ (old new : Option (List ℕ)) (before after : ℕ) where
         go : (sources : List (Format × List ℕ)) → known_inputs inputs ≡ Some sources → (strict : Bool) → plan.is_strict ≡ strict → TellsSources plan old new before after sources
         go sources is true strict =
             subst (tells sources) (sym strict)
-            (at_known _ sources (ap known_inputs (looked_at strict) ∙ is) (strictly strict) (subst (AreWhole (asked_rests plan.options sources)) (sym same) (whole sources is)))
-        go sources is false loose = subst (tells sources) (sym loose) (told_of_read plan sources lists told old new before after (whole sources is) same (loosely loose))
+            (at_known _ sources (ap known_inputs (looked_at strict) ∙ is) (strictly strict) (subst (AreWhole (asked_rests plan.options sources)) (sym same) (found_strictly plan (asked_rests plan.options sources) (map seen_as_rest lists) strict (found sources is))))
+        go sources is false loose = subst (tells sources) (sym loose) (told_of_read plan sources lists told old new before after (found sources is) same (loosely loose))
 
 -- ---- behind what was told
 

@@ -3,28 +3,24 @@ use Rattle.std.proofs.Common.{◌≡◌, ◌∙◌, ◌++◌, ◌+◌, ◌<◌, 
 use Rattle.command_line.specs.declared.plans.Plan.{Plan}
 use Rattle.std.proofs.lemmas.Bool.{true≢false}
 use Rattle.std.proofs.lemmas.List.{take_more}
+use Rattle.std.specs.List.{AllZip}
 use Rattle.stack_core.specs.Ledgers.{ListState}
 use Rattle.stack_core.specs.Reading.{Rest}
 use Rattle.run_options.specs.declared.formats.Format.{Format}
-use Rattle.ring_collect.specs.Collection.{AreWhole, seen_as_rest}
+use Rattle.ring_collect.specs.Collection.{seen_as_rest}
 use Rattle.source_lists.specs.Sources.{asked_rests}
 use Rattle.source_views.specs.Messages.{said_of_each}
 use Rattle.source_views.proofs.MessageTexts.{said_of_more, said_of_seen}
+use Rattle.flame_tool.specs.checked.SummedPlans.{is_summed}
+use Rattle.source_lists.specs.Summing.{IsFound}
 use Rattle.flame_tool.specs.checked.Saying.{TellsEndings}
-
--- the endings of lists are those of what was read
-endings_seen : (rests : List Rest) (lists : List ListState) → map seen_as_rest lists ≡ rests → map (λ list. list.ending) lists ≡ map (λ rest. rest.ending) rests
-endings_seen rests lists whole = go lists ∙ ap (map (λ rest. rest.ending)) whole
-  where
-    go : (lists : List ListState) → map (λ list. list.ending) lists ≡ map (λ rest. rest.ending) (map seen_as_rest lists)
-    go [] = refl
-    go (list ∷ lists) = ap (λ more. list.ending ∷ more) (go lists)
+use Rattle.flame_tool.proofs.FoundSources.{endings_found}
 
 -- what was told of lists was told of what was read
-pub told_of_read : (plan : Plan) (sources : List (Format × List ℕ)) (lists told : List ListState) (old new : Option (List ℕ)) (before after : ℕ) → AreWhole (asked_rests plan.options sources) lists → told ≡ lists
+pub told_of_read : (plan : Plan) (sources : List (Format × List ℕ)) (lists told : List ListState) (old new : Option (List ℕ)) (before after : ℕ) → AllZip (IsFound (is_summed plan)) (asked_rests plan.options sources) (map seen_as_rest lists) → told ≡ lists
     → TellsEndings plan.files old new before after (map (λ list. list.ending) told) → TellsEndings plan.files old new before after (map (λ rest. rest.ending) (asked_rests plan.options sources))
-told_of_read plan sources lists told old new before after whole is tells =
-    subst (TellsEndings plan.files old new before after) (ap (map (λ list. list.ending)) is ∙ endings_seen (asked_rests plan.options sources) lists whole) tells
+told_of_read plan sources lists told old new before after found is tells =
+    subst (TellsEndings plan.files old new before after) (ap (map (λ list. list.ending)) is ∙ endings_found (is_summed plan) (asked_rests plan.options sources) lists found) tells
 
 -- of one of a list more
 pub said_of_first : {A : Type 0} (say : ℕ → A → List ℕ) (xs : List A) (at : ℕ) (none : A) → at < length xs → said_of_each say 0 (take (at + 1) xs) ≡ said_of_each say 0 (take at xs) ++ say at (get_or xs at none)

@@ -13,5 +13,6 @@ pub mod ReportProps
 pub mod SaidOfSources
 pub mod Saying
 pub mod Showed
+pub mod SummedPlans
 pub mod Telling
 pub mod TypeFailures

@@ -1,15 +1,16 @@
 //! The samples of the sources of a plan, collected and shown.
 ghost use Rattle.std.specs.Prelude.{◌≡◌, ◌≢◌, ◌≤◌, ◌<◌, ℕ, false, IfOk, IfSome, Some, IfErr, IsErrOf, OnOk, is_some, length, map, not, true, IsSome};
-ghost use Rattle.std.specs.List.{list_any};
+ghost use Rattle.std.specs.List.{AllZip, list_any};
 ghost use Rattle.command_line.specs.Plans.{IsComparison};
-ghost use Rattle.ring_collect.specs.Collection.{AreWhole};
-ghost use Rattle.source_lists.specs.Runs.{ReadsLists};
+ghost use Rattle.ring_collect.specs.Collection.{AreWhole, seen_as_rest};
 ghost use Rattle.source_lists.specs.Sources.{asked_rests, known_inputs, whole_weight};
 ghost use Rattle.source_lists.specs.Strictness.{source_fault};
 ghost use Rattle.flame_tool.specs.checked.Saying.{TellsEndings};
 ghost use Rattle.source_lists.specs.Types.{types_of};
 ghost use Rattle.flame_tool.specs.KnownFacts.{known_sources};
 ghost use Rattle.flame_tool.specs.StrictRuns.{has_strict_fault};
+ghost use Rattle.flame_tool.specs.checked.SummedPlans.{is_summed, is_summed_view};
+ghost use Rattle.source_lists.specs.Summing.{IsFound};
 ghost use Rattle.flame_tool.specs.checked.Showed.{Showed};
 ghost use Rattle.flame_tool.specs.KnownRuns.{change};
 ghost use Rattle.source_views.specs.Messages.{Tells, message_of_strict_fault, said_of_each};
@@ -25,7 +26,9 @@ use byte_io::{Files, Outlet};
 use command_line::{Form, Plan, View};
 use profile_messages::SampleType;
 use ring_collect::CollectFault;
-use source_lists::{Gating, Input, Run, RunFault, StrictFault, chosen_types, read, strict_faults};
+use source_lists::{
+    Gating, Input, Run, RunFault, StrictFault, chosen_types, read, read_sums, strict_faults,
+};
 use source_views::{Failure, load_sources};
 use stack_core::{Listed, NoSink, OpenGate, SourceList};
 use std::alloc::{AllocError, Global};
@@ -112,9 +115,9 @@ fn read_sources<T: Threads + Wait + Copy + Send + 'static, E: Outlet>(
     advice: Advice<'_>,
 ) -> Result<Run, RunFault>
     requires { length inputs.items ≤ 64 }
-    ensures reads { IfOk result (λ run. IfSome (known_inputs inputs.items) (λ sources.
-        ReadsLists (λ _ _. ⊥) (λ _ _. Unit {0})
-        (asked_rests plan.now.options sources) run.kept.lists run.kept.order)) }
+    ensures found { IfOk result (λ run. IfSome (known_inputs inputs.items) (λ sources.
+        AllZip (IsFound (is_summed plan.now)) (asked_rests plan.now.options sources)
+        (map seen_as_rest run.kept.lists))) }
     ensures weight { IfOk result (λ run. IfSome (known_inputs inputs.items) (λ sources.
         run.whole_weight ≡ Some (whole_weight plan.now.options sources))) }
     ensures weighed { IfOk result (λ run. IsSome run.whole_weight) }
@@ -125,15 +128,65 @@ fn read_sources<T: Threads + Wait + Copy + Send + 'static, E: Outlet>(
         → source < length inputs.items }
     ensures untold { advice.entry.is_wanted ≡ false → err.new ≡ err.old }
 {
-    let (rt, alloc) = (host.rt, host.alloc);
-    let gating = Gating::<OpenGate>::Open;
     if plan.is_quiet || !advice.is_wanted() {
-        return read(rt, alloc, inputs, &plan.options, gating, &mut NoSink::new());
+        return read_quietly(host, plan, inputs);
     }
     let mut progress = Progress::new(err, plan.files.get());
-    let run = read(rt, alloc, inputs, &plan.options, gating, &mut progress);
+    let gating = Gating::<OpenGate>::Open;
+    let run = read(
+        host.rt,
+        host.alloc,
+        inputs,
+        &plan.options,
+        gating,
+        &mut progress,
+    );
     progress.clear();
     run
+}
+
+// Reads the sources, and sums the weights of equal stacks where the plan asks for no more.
+fn read_quietly<T: Threads + Wait + Copy + Send + 'static>(
+    host: &Host<'_, T>,
+    plan: &Plan,
+    inputs: Vec<Input>,
+) -> Result<Run, RunFault>
+    requires { length inputs.items ≤ 64 }
+    ensures found { IfOk result (λ run. IfSome (known_inputs inputs.items) (λ sources.
+        AllZip (IsFound (is_summed plan.now)) (asked_rests plan.now.options sources)
+        (map seen_as_rest run.kept.lists))) }
+    ensures weight { IfOk result (λ run. IfSome (known_inputs inputs.items) (λ sources.
+        run.whole_weight ≡ Some (whole_weight plan.now.options sources))) }
+    ensures weighed { IfOk result (λ run. IsSome run.whole_weight) }
+    ensures count { IfOk result (λ run. length run.kept.lists ≡ length inputs.items) }
+    ensures refused { (source : ℕ) → IsErrOf result (RunFault.Collect (CollectFault.Unfinished source))
+        → source < length inputs.items }
+    ensures unreadable { (source : ℕ) → IsErrOf result (RunFault.Unreadable source)
+        → source < length inputs.items }
+{
+    let (rt, alloc) = (host.rt, host.alloc);
+    if is_summed(plan) {
+        return read_sums(rt, alloc, inputs, &plan.options);
+    }
+    let gating = Gating::<OpenGate>::Open;
+    read(rt, alloc, inputs, &plan.options, gating, &mut NoSink::new())
+}
+
+// Whether the plan asks for the weights of stacks alone, and not for samples in their order.
+fn is_summed(plan: &Plan) -> bool
+    ensures { result ≡ is_summed plan.now }
+{
+    !plan.is_strict && is_summed_view(plan.view, plan.options.every)
+}
+
+fn is_summed_view(view: View, every: Option<u64>) -> bool
+    ensures { result ≡ is_summed_view view every }
+{
+    match view {
+        View::Fold | View::Pairs | View::PairBoxes(_) | View::Top(_) | View::Diff(_) => true,
+        View::Graph(_) => every.is_none(),
+        View::Chart(_) => false,
+    }
 }
 
 // The sources, to be looked at again where they are read strictly or advice is wanted.

@@ -1,7 +1,8 @@
 -- What readers of inputs may give, and what was read by them.
-use Rattle.std.proofs.Common.{◌≡◌, ◌≢◌, ◌∙◌, ◌⊎◌, ◌↔◌, inl, inr, ℕ, suc, false, List, [], ◌∷◌, Option, Some, None, IfSome, All, ap, arith, map, refl, sym, subst}
+use Rattle.std.proofs.Common.{◌≡◌, ◌≢◌, ◌∙◌, ◌⊎◌, ◌↔◌, inl, inr, ℕ, suc, Bool, false, List, [], ◌∷◌, Option, Some, None, IfSome, All, ap, arith, length, map, refl, sym, subst}
 use Rattle.std.specs.List.{AllZip}
-use Rattle.std.proofs.lemmas.List.Elements.{All-nil}
+use Rattle.std.proofs.lemmas.List.{length-map}
+use Rattle.std.proofs.lemmas.List.Elements.{All-map, All-nil}
 use Rattle.sample_tables.specs.Samples.{IsLimited}
 use Rattle.profile_tables.specs.Samples.{read_pprof}
 use Rattle.profile_tables.proofs.RestLemmas.{pprof-limited}
@@ -13,6 +14,7 @@ use Rattle.stack_core.specs.Ledgers.{ListState}
 use Rattle.stack_core.specs.Reading.{IsSourceLimited, Rest}
 use Rattle.stack_core.specs.declared.endings.SourceEnd.TheVariants.{Stopped}
 use Rattle.ring_collect.specs.Collection.{AreGiven, seen_as_rest}
+use Rattle.ring_collect.proofs.GivenRests.{given_count}
 use Rattle.run_options.specs.declared.formats.Format.{Format}
 use Rattle.run_options.specs.declared.formats.Format.TheVariants.{Folded, Pprof}
 use Rattle.run_options.specs.declared.choices.Naming.{Naming}
@@ -20,6 +22,8 @@ use Rattle.run_options.specs.declared.choices.Pick.{Pick}
 use Rattle.run_options.specs.declared.options.Options.{Options}
 use Rattle.source_lists.specs.Runs.{IsReadOut}
 use Rattle.source_lists.specs.Sources.{known_input, known_inputs, whole_rest, whole_rests}
+use Rattle.source_lists.specs.Summing.{IsFound}
+use Rattle.source_lists.specs.checked.SummedRuns.{FindsGiven}
 use Rattle.source_lists.specs.checked.InputReaders.{IsCutOff, IsReaderOf, input_gives, range, stream_gives}
 use Rattle.source_lists.specs.checked.Readers.{reader_rest, reader_told}
 use Rattle.source_lists.specs.checked.StoredProfiles.{ReadsSome, nothing_read, profile_gives, profile_told}
@@ -27,7 +31,8 @@ use Rattle.source_lists.specs.declared.input_readers.InputReader.{InputReader}
 use Rattle.source_lists.specs.declared.input_readers.InputReader.TheVariants.{Loaded, Text, Profile}
 use Rattle.source_lists.specs.declared.source_reader.SourceReader.{SourceReader}
 use Rattle.source_lists.specs.declared.stored_profile.StoredProfile.{StoredProfile}
-use Rattle.source_lists.proofs.KnownInputs.{found_all}
+use Rattle.source_lists.proofs.KnownInputs.{found_all, if_some, zip_count}
+use Rattle.source_lists.proofs.FoundRests.{IsNotCutOff, rests_out}
 
 -- ---- one reader
 
@@ -83,19 +88,28 @@ read_out : (rest : Rest) (Holds : Type 0) → IsCutOff rest ⊎ Holds → ((afte
 read_out rest Holds (inl cut) out = absurd (out cut.0 cut.1)
 read_out rest Holds (inr holds) out = holds
 
-each_read : (options : Options) (inputs : List (Format × Option (List ℕ))) (readers : List InputReader) (lists : List ListState) → AllZip (IsReaderOf options) inputs readers → AreGiven input_gives readers (map seen_as_rest lists)
-    → All IsReadOut lists → AllZip (λ input rest. IfSome (known_input input) (λ source. rest ≡ whole_rest options source)) inputs (map seen_as_rest lists)
+each_read : (options : Options) (inputs : List (Format × Option (List ℕ))) (readers : List InputReader) (rests : List Rest) → AllZip (IsReaderOf options) inputs readers → AreGiven input_gives readers rests
+    → All IsNotCutOff rests → AllZip (λ input rest. IfSome (known_input input) (λ source. rest ≡ whole_rest options source)) inputs rests
 each_read options [] [] [] each given out = tt
-each_read options [] (reader ∷ readers) lists each given out = absurd each
+each_read options [] (reader ∷ readers) rests each given out = absurd each
 each_read options (input ∷ inputs) [] lists each given out = absurd each
-each_read options [] [] (list ∷ lists) each given out = absurd given
+each_read options [] [] (rest ∷ rests) each given out = absurd given
 each_read options (input ∷ inputs) (reader ∷ readers) [] each given out = absurd given
-each_read options (input ∷ inputs) (reader ∷ readers) (list ∷ lists) each given out = (
-  read_out (seen_as_rest list) (IfSome (known_input input) (λ source. seen_as_rest list ≡ whole_rest options source)) (each.0.reads (seen_as_rest list) given.0) (out 0 list (omega arith)),
-  each_read options inputs readers lists each.1 given.1 (λ k d within. out (suc k) d (omega (arith, within))),
+each_read options (input ∷ inputs) (reader ∷ readers) (rest ∷ rests) each given out = (
+  read_out rest (IfSome (known_input input) (λ source. rest ≡ whole_rest options source)) (each.0.reads rest given.0) (out 0 rest (omega arith)),
+  each_read options inputs readers rests each.1 given.1 (λ k d within. out (suc k) d (omega (arith, within))),
 )
 
 -- what was read to its end is what the bytes stand for, where all are known
-pub whole_read : (options : Options) (inputs : List (Format × Option (List ℕ))) (readers : List InputReader) (lists : List ListState) → AllZip (IsReaderOf options) inputs readers → AreGiven input_gives readers (map seen_as_rest lists)
-    → All IsReadOut lists → IfSome (known_inputs inputs) (λ sources. map seen_as_rest lists ≡ whole_rests options sources)
-whole_read options inputs readers lists each given out = found_all known_input (whole_rest options) inputs (map seen_as_rest lists) (each_read options inputs readers lists each given out)
+pub whole_read : (options : Options) (inputs : List (Format × Option (List ℕ))) (readers : List InputReader) (is_summed : Bool) (lists : List ListState) → AllZip (IsReaderOf options) inputs readers
+    → FindsGiven input_gives is_summed readers (map seen_as_rest lists) → All IsReadOut lists → IfSome (known_inputs inputs) (λ sources. AllZip (IsFound is_summed) (whole_rests options sources) (map seen_as_rest lists))
+whole_read options inputs readers is_summed lists each given out =
+    let rests_are = rests_out is_summed given.rests (map seen_as_rest lists) given.are_found (All-map IsNotCutOff seen_as_rest lists out) in
+    if_some (known_inputs inputs) (λ sources. given.rests ≡ whole_rests options sources) (λ sources. AllZip (IsFound is_summed) (whole_rests options sources) (map seen_as_rest lists))
+    (λ sources same. subst (λ (rests : List Rest). AllZip (IsFound is_summed) rests (map seen_as_rest lists)) same given.are_found)
+    (found_all known_input (whole_rest options) inputs given.rests (each_read options inputs readers given.rests each given.are_given rests_are))
+
+-- a list was found for each reader
+pub found_count : (is_summed : Bool) (readers : List InputReader) (lists : List ListState) → FindsGiven input_gives is_summed readers (map seen_as_rest lists) → length lists ≡ length readers
+found_count is_summed readers lists given =
+    sym (length-map lists seen_as_rest) ∙ (zip_count (IsFound is_summed) given.rests (map seen_as_rest lists) given.are_found ∙ given_count input_gives readers given.rests given.are_given)

@@ -1,8 +1,8 @@
 -- What is told of inputs, where their bytes are known.
-use Rattle.std.proofs.Common.{◌≡◌, ◌++◌, suc, List, [], ◌∷◌, Option, Some, None, IfSome, All, ap, length, map, refl}
+use Rattle.std.proofs.Common.{◌≡◌, ◌++◌, suc, List, [], ◌∷◌, Option, Some, None, IfSome, All, ap, length, map, refl, subst, sym}
 use Rattle.std.specs.Prelude.{option_and_then, option_map}
 use Rattle.std.specs.List.{AllZip}
-use Rattle.std.proofs.lemmas.List.Elements.{All-cons, All-nil}
+use Rattle.std.proofs.lemmas.List.Elements.{All-cons, All-head, All-nil, All-tail}
 use Rattle.source_lists.specs.Sources.{all_found, format_and_bytes, known_inputs, known_source}
 use Rattle.source_lists.specs.declared.sources.Source.{Source}
 
@@ -28,6 +28,24 @@ pub zip_all : {A B : Type 0} (R : A → B → Type 0) (P : B → Type 0) → ((x
 zip_all R P so xs [] each = All-nil P
 zip_all R P so [] (y ∷ ys) each = absurd each
 zip_all R P so (x ∷ xs) (y ∷ ys) each = All-cons P y ys (so x y each.0) (zip_all R P so xs ys each.1)
+
+pub zip_each : {A B : Type 0} (xs : List A) (ys : List B) (R : A → B → Type 0) (P : A → Type 0) (Q : B → Type 0) → ((x : A) (y : B) → P x → R x y → Q y) → All P xs → AllZip R xs ys → All Q ys
+zip_each [] [] R P Q so all each = All-nil Q
+zip_each [] (y ∷ ys) R P Q so all each = absurd each
+zip_each (x ∷ xs) [] R P Q so all each = absurd each
+zip_each (x ∷ xs) (y ∷ ys) R P Q so all each = All-cons Q y ys (so x y (All-head P x xs all) each.0) (zip_each xs ys R P Q so (All-tail P x xs all) each.1)
+
+pub zip_pushed : {A B : Type 0} (xs : List A) (ys all : List B) (x : A) (y : B) (R : A → B → Type 0) → all ≡ ys ++ y ∷ [] → AllZip R xs ys → R x y → AllZip R (xs ++ x ∷ []) all
+zip_pushed xs ys all x y R is before last = subst (AllZip R (xs ++ x ∷ [])) (sym is) (zip_push R xs ys x y before last)
+
+pub zip_taken : {A B : Type 0} (taken xs : List A) (ys : List B) (R : A → B → Type 0) → taken ≡ xs → AllZip R taken ys → AllZip R xs ys
+zip_taken taken xs ys R same each = subst (λ xs. AllZip R xs ys) same each
+
+pub zip_weaker : {A B : Type 0} (xs : List A) (ys : List B) (R S : A → B → Type 0) → ((x : A) (y : B) → R x y → S x y) → AllZip R xs ys → AllZip S xs ys
+zip_weaker [] [] R S so each = each
+zip_weaker [] (y ∷ ys) R S so each = absurd each
+zip_weaker (x ∷ xs) [] R S so each = absurd each
+zip_weaker (x ∷ xs) (y ∷ ys) R S so each = (so x y each.0, zip_weaker xs ys R S so each.1)
 
 -- ---- what is found for all
 

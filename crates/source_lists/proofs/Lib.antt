@@ -2,6 +2,7 @@ pub mod BackLemmas
 pub mod CutLemmas
 mod FaultLemmas
 mod FilteredSources
+pub mod FoundRests
 pub mod InputLemmas
 pub mod JoinLemmas
 mod KeptLemmas
@@ -12,5 +13,6 @@ pub mod PartLemmas
 pub mod ProfileLemmas
 pub mod ReaderThreads
 pub mod StrictLemmas
+mod SummedLemmas
 mod WorkedFromNames
 mod WorkedOmittedNames

@@ -1,6 +1,6 @@
 -- Lists of the parts of a source, one after another.
-use Rattle.std.proofs.Common.{◌≡◌, ◌≤◌, ◌∙◌, ◌+◌, ℕ, suc, ap, arith, subst, sym, map, All, List, [], ◌∷◌, ◌++◌, Option, Some, None, IfOk, IfSome, Ok, Err, Result}
-use Rattle.std.specs.Prelude.{option_map}
+use Rattle.std.proofs.Common.{◌≡◌, ◌≤◌, ◌∙◌, ◌+◌, ℕ, suc, Bool, ap, arith, refl, subst, sym, map, All, List, [], ◌∷◌, ◌++◌, Option, Some, None, IfOk, IfSome, Ok, Err, Result}
+use Rattle.std.specs.Prelude.{option_and_then, option_map}
 use Rattle.std.specs.declared.alloc.AllocError.{AllocError}
 use Rattle.std.specs.List.{AllZip}
 use Rattle.std.proofs.lemmas.List.{append-nil}
@@ -10,7 +10,9 @@ use Rattle.std.proofs.lemmas.Grind.{flat_map-append}
 use Rattle.sample_tables.specs.Samples.{IsLimited, total_weight}
 use Rattle.sample_tables.specs.declared.samples.TheConstants.{WEIGHT_LIMIT}
 use Rattle.stack_core.specs.Parts.{IsClean, ReadsInParts, ignored_of, joined, samples_of_parts}
+use Rattle.stack_core.specs.Ledgers.{ListState}
 use Rattle.stack_core.specs.Reading.{IsSourceLimited, Rest}
+use Rattle.stack_core.specs.declared.endings.SourceEnd.TheVariants.{Clean, Stopped}
 use Rattle.ring_collect.specs.Collection.{AreGiven, seen_as_rest}
 use Rattle.ring_collect.proofs.GivenRests.{known_rests}
 use Rattle.run_options.specs.declared.choices.Naming.{Naming}
@@ -22,10 +24,16 @@ use Rattle.folded_lines.specs.Reading.{read_folded}
 use Rattle.profile_tables.specs.Samples.{read_pprof}
 use Rattle.folded_lines.proofs.ReadLemmas.{IsSourceLimited-read_folded}
 use Rattle.profile_tables.proofs.RestLemmas.{pprof-limited}
-use Rattle.source_lists.specs.Sources.{read_bytes, whole_rest}
+use Rattle.source_lists.specs.Runs.{IsReadOut}
+use Rattle.source_lists.specs.Sources.{known_input, read_bytes, whole_rest, whole_rests}
+use Rattle.source_lists.specs.Summing.{IsFound}
+use Rattle.source_lists.specs.checked.OpenRuns.{ReadsOpen}
+use Rattle.source_lists.specs.checked.PartRuns.{ArePartsFound, FindsPartsOf}
 use Rattle.source_lists.specs.checked.Parts.{AreCleanParts, ArePartsOf, ignored_by}
+use Rattle.source_lists.specs.checked.SummedRuns.{FindsGiven}
 use Rattle.source_lists.specs.declared.part_runs.CleanParts.{CleanParts}
 use Rattle.source_lists.proofs.KnownInputs.{if_some}
+use Rattle.source_lists.proofs.FoundRests.{alike_parts, alike_total, found_clean, found_joined}
 
 -- ---- one part more
 
@@ -92,12 +100,15 @@ stored_parts {R} gives readers text reads limited parts ignored given clean = re
 -- of a run of them
 pub parts_of_run : {R : Type 0} (gives : R → Rest → Type 0) (readers : List R) (whole : Option Rest)
     → ((parts : List Rest) (ignored : ℕ) → AreGiven gives readers parts → AreCleanParts parts ignored → ArePartsOf whole parts ignored)
-    → (result : Result (Option CleanParts) AllocError) → IfOk result (λ found. IfSome found (λ parts. AreGiven gives readers (map seen_as_rest parts.lists.items)))
-    → IfOk result (λ found. IfSome found (λ parts. AreCleanParts (map seen_as_rest parts.lists.items) parts.ignored))
-    → IfOk result (λ found. IfSome found (λ parts. ArePartsOf whole (map seen_as_rest parts.lists.items) parts.ignored))
-parts_of_run gives readers whole so (Err error) given clean = tt
-parts_of_run gives readers whole so (Ok None) given clean = tt
-parts_of_run gives readers whole so (Ok (Some parts)) given clean = so (map seen_as_rest parts.lists.items) parts.ignored given clean
+    → (is_summed : Bool) (result : Result (Option CleanParts) AllocError) → IfOk result (λ found. IfSome found (λ parts. FindsGiven gives is_summed readers (map seen_as_rest parts.lists.items)))
+    → IfOk result (λ found. IfSome found (λ parts. AreCleanParts (map seen_as_rest parts.lists.items) parts.ignored)) → FindsPartsOf is_summed whole result
+parts_of_run gives readers whole so is_summed (Err error) given clean = tt
+parts_of_run gives readers whole so is_summed (Ok None) given clean = tt
+parts_of_run gives readers whole so is_summed (Ok (Some parts)) given clean = record {
+  parts = given.rests;
+  are_parts = so given.rests parts.ignored given.are_given (found_clean is_summed given.rests (map seen_as_rest parts.lists.items) parts.ignored given.are_found clean);
+  are_found = given.are_found;
+}
 
 -- of a profile that was loaded
 profile_whole : (text : Option (List ℕ)) (pick : Pick) (naming : Naming) (bytes : List ℕ) (parts : List Rest) → IfSome text (λ all. bytes ≡ all) → read_pprof bytes pick naming ≡ joined parts
@@ -105,13 +116,47 @@ profile_whole : (text : Option (List ℕ)) (pick : Pick) (naming : Naming) (byte
 profile_whole None pick naming bytes parts is whole = tt
 profile_whole (Some all) pick naming bytes parts is whole = ap (λ bytes. read_pprof bytes pick naming) (sym is) ∙ whole
 
-pub profile_parts : (text : Option (List ℕ)) (options : Options) (bytes : List ℕ) → IfSome text (λ all. bytes ≡ all) → (result : Result (Option CleanParts) AllocError)
-    → IfOk result (λ found. IfSome found (λ parts. ArePartsOf (Some (whole_rest options (Pprof, bytes))) (map seen_as_rest parts.lists.items) parts.ignored))
-    → IfOk result (λ found. IfSome found (λ parts. ArePartsOf (option_map (λ bytes. read_pprof bytes options.pick options.naming) text) (map seen_as_rest parts.lists.items) parts.ignored))
-profile_parts text options bytes is (Err error) of = tt
-profile_parts text options bytes is (Ok None) of = tt
-profile_parts text options bytes is (Ok (Some parts)) of = record {
-  whole_is = profile_whole text options.pick options.naming bytes (map seen_as_rest parts.lists.items) is of.whole_is;
-  ignored_is = of.ignored_is;
-  limited = of.limited;
+pub profile_parts : (text : Option (List ℕ)) (options : Options) (bytes : List ℕ) → IfSome text (λ all. bytes ≡ all) → (is_summed : Bool) (result : Result (Option CleanParts) AllocError)
+    → FindsPartsOf is_summed (Some (whole_rest options (Pprof, bytes))) result → FindsPartsOf is_summed (option_map (λ bytes. read_pprof bytes options.pick options.naming) text) result
+profile_parts text options bytes is is_summed (Err error) of = tt
+profile_parts text options bytes is is_summed (Ok None) of = tt
+profile_parts text options bytes is is_summed (Ok (Some parts)) of = record {
+  parts = of.parts;
+  are_parts = record {
+    whole_is = profile_whole text options.pick options.naming bytes of.parts is of.are_parts.whole_is;
+    ignored_is = of.are_parts.ignored_is;
+    limited = of.are_parts.limited;
+  };
+  are_found = of.are_found;
+}
+
+-- ---- the parts as one list
+
+clean_goes_on : (ignored after : ℕ) → Clean ignored ≡ Stopped after → ⊥
+clean_goes_on ignored after is = absurd cc
+
+pub some_parts : (is_summed : Bool) (whole : Option Rest) (result : Option CleanParts) (parts : CleanParts) → result ≡ Some parts
+    → IfSome result (λ parts. ArePartsFound is_summed whole (map seen_as_rest parts.lists.items) parts.ignored) → ArePartsFound is_summed whole (map seen_as_rest parts.lists.items) parts.ignored
+some_parts is_summed whole result parts is found =
+    subst (λ (result : Option CleanParts). IfSome result (λ parts. ArePartsFound is_summed whole (map seen_as_rest parts.lists.items) parts.ignored)) is found
+
+pub joined_limited : (is_summed : Bool) (whole : Option Rest) (parts : List Rest) (ignored : ℕ) (list : Rest) → ArePartsFound is_summed whole parts ignored → list ≡ joined parts → total_weight list.samples ≤ WEIGHT_LIMIT
+joined_limited is_summed whole parts ignored list found is =
+    subst (λ (rest : Rest). total_weight rest.samples ≤ WEIGHT_LIMIT) (sym is)
+    (subst (λ weight. weight ≤ WEIGHT_LIMIT) (sym (alike_total (samples_of_parts parts) (samples_of_parts found.parts) (alike_parts is_summed found.parts parts found.are_found))) found.are_parts.limited.total)
+
+-- of an input whose bytes may be known
+one_whole : (options : Options) (is_summed : Bool) (known : Option (Format × List ℕ)) (parts : List Rest) (list : Rest) → IfSome (option_map (whole_rest options) known) (λ whole. whole ≡ joined parts) → IsFound is_summed (joined parts) list
+    → IfSome (option_and_then (λ source. option_map (λ more. source ∷ more) (Some [])) known) (λ sources. AllZip (IsFound is_summed) (whole_rests options sources) (list ∷ []))
+one_whole options is_summed None parts list whole found = tt
+one_whole options is_summed (Some source) parts list whole found = (subst (λ (whole : Rest). IsFound is_summed whole list) (sym whole) found, tt)
+
+pub joined_reads : (options : Options) (is_summed : Bool) (input : Format × Option (List ℕ)) (parts : List Rest) (ignored : ℕ) (list : ListState) → ArePartsFound is_summed (option_map (whole_rest options) (known_input input)) parts ignored
+    → seen_as_rest list ≡ joined parts → ReadsOpen options is_summed (input ∷ []) (list ∷ [])
+joined_reads options is_summed input parts ignored list found is = record {
+  whole =
+      one_whole options is_summed (known_input input) found.parts (seen_as_rest list) found.are_parts.whole_is
+      (subst (λ (list : Rest). IsFound is_summed (joined found.parts) list) (sym is) (found_joined is_summed found.parts parts found.are_found));
+  count = refl;
+  unstopped = All-cons IsReadOut list [] (λ after stopped. absurd (clean_goes_on (ignored_by parts) after (sym (ap (λ (rest : Rest). rest.ending) is) ∙ stopped))) (All-nil IsReadOut);
 }

@@ -7,7 +7,6 @@ use Rattle.stack_core.specs.Ledgers.{ListState}
 use Rattle.stack_core.specs.Reading.{Rest}
 use Rattle.stack_core.specs.declared.endings.SourceEnd.{SourceEnd}
 use Rattle.stack_core.specs.declared.endings.SourceEnd.TheVariants as ends
-use Rattle.folded_lines.specs.StrictReading.{fault_of_ending, fault_without}
 use Rattle.folded_lines.specs.Lines.{read_line, text_lines}
 use Rattle.folded_lines.specs.Reading.{read_after, read_folded}
 use Rattle.folded_lines.specs.checked.Strictness.{fault_of_counted}

@@ -5,5 +5,6 @@ pub mod OmittedNames
 pub mod Runs
 pub mod Sources
 pub mod Strictness
+pub mod Summing
 pub mod Types
 pub mod checked

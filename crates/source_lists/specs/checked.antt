@@ -11,4 +11,6 @@ pub mod Parts
 pub mod Readers
 pub mod StoredProfiles
 pub mod StrictEndings
+pub mod SummedRows
+pub mod SummedRuns
 pub mod UnkeptSamples

@@ -113,8 +113,8 @@ pub(crate) fn numbers_of_stacks(
 {
     let count = list.stack_count();
     let others = ledger.stack_count();
-    // Where most samples have a stack of their own, it is hardly ever known.
-    let mut looks_up = count <= list.len() / 2;
+    // Where few samples have the stack of another, it is hardly ever known. Of those that are summed each stack has two at most.
+    let mut looks_up = list.len().saturating_sub(count) >= count / 4;
     let mut found = 0usize;
     let mut numbers = Vec::with_capacity(alloc, count)?;
     let mut stack = Vec::new(alloc);

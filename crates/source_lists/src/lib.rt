@@ -28,13 +28,14 @@ mod source_types;
 mod sources;
 mod stored_profile;
 mod strictness;
+mod summed_rows;
 mod unkept_samples;
 mod unreadable_sources;
 
 pub use folded_lines::{StrictFault, StrictKind};
 pub use gating::Gating;
 pub use inputs::Input;
-pub use reading::{Run, read};
+pub use reading::{Run, read, read_sums};
 pub use run_faults::RunFault;
 pub use source_lists::SourceLists;
 pub use source_types::chosen_types;

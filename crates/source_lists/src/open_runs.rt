@@ -41,7 +41,7 @@ impl<T: Threads + Wait + Copy + Send + 'static> Runner<'_, T> {
     /// Collects all samples of the sources, each by one reader.
     fn collect_each<S: RowSink>(&self, inputs: Vec<Input>, sink: &mut S) -> RunResult<SourceLists>
         requires { length inputs.items ≤ 64 }
-        ensures reads { IfOk result (λ run. ReadsOpen self.now.options.now inputs.items run.lists) }
+        ensures reads { IfOk result (λ run. ReadsOpen self.now.options.now self.now.is_summed inputs.items run.lists) }
         ensures err { IfErr result (IsOfRun (length inputs.items)) }
         ensures setting { S.setting sink.new ≡ S.setting sink.old }
     {
@@ -56,7 +56,7 @@ impl<T: Threads + Wait + Copy + Send + 'static> Runner<'_, T> {
 
     /// Collects all samples of a source, in parts if that can be.
     fn collect_in_parts<S: RowSink>(&self, input: Input, sink: &mut S) -> RunResult<SourceLists>
-        ensures reads { IfOk result (λ run. ReadsOpen self.now.options.now (input ∷ []) run.lists) }
+        ensures reads { IfOk result (λ run. ReadsOpen self.now.options.now self.now.is_summed (input ∷ []) run.lists) }
         ensures err { IfErr result (IsOfRun 1) }
         ensures setting { S.setting sink.new ≡ S.setting sink.old }
     {
@@ -64,6 +64,7 @@ impl<T: Threads + Wait + Copy + Send + 'static> Runner<'_, T> {
             // The bytes are given back before the lists are copied.
             drop(input);
             let list = joined_list(self.alloc, lists, ignored)?;
+            let _count = list.len();
             return Ok(SourceLists::of_one(self.alloc, list)?);
         }
         // The sink was fed with the parts.
@@ -78,7 +79,7 @@ impl<T: Threads + Wait + Copy + Send + 'static> Runner<'_, T> {
         sink: &mut S,
     ) -> RunResult<SourceLists>
         requires { length inputs.items ≤ 64 }
-        ensures reads { IfOk result (λ run. ReadsOpen self.now.options.now inputs.items run.lists) }
+        ensures reads { IfOk result (λ run. ReadsOpen self.now.options.now self.now.is_summed inputs.items run.lists) }
         ensures err { IfErr result (IsOfRun (length inputs.items)) }
         ensures setting { S.setting sink.new ≡ S.setting sink.old }
     {

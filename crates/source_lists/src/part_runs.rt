@@ -3,11 +3,12 @@
 ghost use Rattle.std.specs.Prelude.{◌≡◌, ◌≤◌, ◌<◌, [], All, IfOk, IfSome, Some, length, map, option_map};
 ghost use Rattle.folded_lines.specs.Reading.{read_folded};
 ghost use Rattle.profile_tables.specs.Samples.{read_pprof};
-ghost use Rattle.ring_collect.specs.Collection.{AreGiven, seen_as_rest};
+ghost use Rattle.ring_collect.specs.Collection.{seen_as_rest};
 ghost use Rattle.ring_collect.specs.checked.WholeRuns.{CanRun};
 ghost use Rattle.source_lists.specs.Sources.{known_input, whole_rest};
 ghost use Rattle.source_lists.specs.checked.Parts.{AreCleanParts};
 ghost use Rattle.source_lists.specs.checked.PartRuns.{FindsPartsOf};
+ghost use Rattle.source_lists.specs.checked.SummedRuns.{FindsGiven};
 
 use crate::inputs::{Content, Input};
 use crate::loaded_sources::LoadedSource;
@@ -68,7 +69,8 @@ impl<T: Threads + Wait + Copy + Send + 'static> Runner<'_, T> {
     ) -> FoundParts
         requires { CanRun R.told R.gives readers.items }
         ensures given { IfOk result (λ found. IfSome found (λ parts.
-            AreGiven (λ reader. R.gives reader) readers.items (map seen_as_rest parts.lists.items))) }
+            FindsGiven (λ reader. R.gives reader) self.now.is_summed readers.items
+            (map seen_as_rest parts.lists.items))) }
         ensures clean { IfOk result (λ found. IfSome found (λ parts.
             AreCleanParts (map seen_as_rest parts.lists.items) parts.ignored)) }
         ensures setting { S.setting sink.new ≡ S.setting sink.old }
@@ -88,7 +90,8 @@ impl<T: Threads + Wait + Copy + Send + 'static> Runner<'_, T> {
 
     /// The same of a source whose bytes are there.
     fn read_loaded_parts<S: RowSink>(&self, source: &LoadedSource, sink: &mut S) -> FoundParts
-        ensures parts { FindsPartsOf (Some (whole_rest self.now.options.now source.now)) result }
+        ensures parts { FindsPartsOf self.now.is_summed
+            (Some (whole_rest self.now.options.now source.now)) result }
         ensures setting { S.setting sink.new ≡ S.setting sink.old }
     {
         let bytes = source.bytes().clone()?;
@@ -114,7 +117,8 @@ impl<T: Threads + Wait + Copy + Send + 'static> Runner<'_, T> {
 
     /// The same of a stored text.
     fn read_stored_parts<S: RowSink>(&self, text: &StoredText, sink: &mut S) -> FoundParts
-        ensures parts { FindsPartsOf (option_map read_folded text.now) result }
+        ensures parts { FindsPartsOf self.now.is_summed
+            (option_map read_folded text.now) result }
         ensures setting { S.setting sink.new ≡ S.setting sink.old }
     {
         let readers = FoldedStream::parts(self.alloc, text, reader_count(text.len()))?;
@@ -123,7 +127,7 @@ impl<T: Threads + Wait + Copy + Send + 'static> Runner<'_, T> {
 
     /// The same of a stored profile, which is loaded for it. `None` also where it can't be read.
     fn read_profile_parts<S: RowSink>(&self, text: &StoredText, sink: &mut S) -> FoundParts
-        ensures parts { let options = self.now.options.now in FindsPartsOf
+        ensures parts { let options = self.now.options.now in FindsPartsOf self.now.is_summed
             (option_map (λ bytes. read_pprof bytes options.pick options.naming) text.now) result }
         ensures setting { S.setting sink.new ≡ S.setting sink.old }
     {
@@ -137,7 +141,7 @@ impl<T: Threads + Wait + Copy + Send + 'static> Runner<'_, T> {
 
     /// The same of an input.
     pub(crate) fn read_parts<S: RowSink>(&self, input: &Input, sink: &mut S) -> FoundParts
-        ensures parts { FindsPartsOf
+        ensures parts { FindsPartsOf self.now.is_summed
             (option_map (whole_rest self.now.options.now) (known_input input.now)) result }
         ensures setting { S.setting sink.new ≡ S.setting sink.old }
     {

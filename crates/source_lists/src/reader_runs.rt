@@ -8,12 +8,14 @@ ghost use Rattle.merged_stacks.specs.Timeline.{samples_of};
 ghost use Rattle.ring_collect.specs.Collection.{AreGiven, seen_as_rest};
 ghost use Rattle.ring_collect.specs.checked.WholeRuns.{CanRun};
 ghost use Rattle.source_lists.specs.Runs.{ReadsLists};
+ghost use Rattle.source_lists.specs.checked.SummedRuns.{FindsGiven};
 ghost use Rattle.source_lists.specs.checked.OpenRuns.{IsOfReaders};
 ghost use Rattle.source_lists.specs.checked.Readers.{filtered_rest, reader_rest, reader_told};
 
 use crate::filtered_reader::FilteredReader;
 use crate::runners::Runner;
 use crate::source_reader::SourceReader;
+use crate::summed_rows::sum_all;
 use crate::unkept_samples::UnkeptSamples;
 use ring_collect::{CollectFault, Collected, collect, collect_rows};
 use stack_core::{Gate, NamingReader, OpenGate, RowReader, RowSink};
@@ -27,7 +29,7 @@ fn open_gate(alloc: Global) -> Result<Arc<OpenGate>, AllocError> {
 
 impl<T: Threads + Wait + Copy + Send + 'static> Runner<'_, T> {
     /// Collects what the readers tell, by rows, where no gate is asked: each list is what its reader may give.
-    pub(crate) fn run_open<R: RowReader + Send + Drop + 'static, S: RowSink>(
+    fn run_in_order<R: RowReader + Send + Drop + 'static, S: RowSink>(
         &self,
         readers: Vec<R>,
         sink: &mut S,
@@ -42,6 +44,28 @@ impl<T: Threads + Wait + Copy + Send + 'static> Runner<'_, T> {
     {
         let gate = open_gate(self.alloc)?;
         collect_rows(self.rt, self.alloc, readers, self.options.ring, gate, sink)
+    }
+
+    /// The same, or, where samples are summed, lists that weigh like what the readers may give.
+    pub(crate) fn run_open<R: RowReader + Send + Drop + 'static, S: RowSink>(
+        &self,
+        readers: Vec<R>,
+        sink: &mut S,
+    ) -> Result<Collected, CollectFault>
+        requires { CanRun R.told R.gives readers.items }
+        ensures given { IfOk result (λ run. FindsGiven (λ reader. R.gives reader) self.now.is_summed
+            readers.items (map seen_as_rest run.lists.items)) }
+        ensures ordered { IfOk result (λ run.
+            IsInterleaving run.order.items (samples_of run.lists.items)) }
+        ensures err { IfErr result (IsOfReaders (length readers.items)) }
+        ensures setting { S.setting sink.new ≡ S.setting sink.old }
+    {
+        if self.is_summed {
+            let summed = sum_all(self.alloc, readers)?;
+            self.run_in_order(summed, sink)
+        } else {
+            self.run_in_order(readers, sink)
+        }
     }
 
     /// Collects what the readers tell, by rows, as far as a gate lets them.

@@ -2,6 +2,7 @@
 
 ghost use Rattle.std.specs.Prelude.{◌≡◌, ◌≤◌, ◌<◌, ℕ, All, Some, IfErr, IfOk, IfSome, IsErrOf, IsSome, length, map};
 ghost use Rattle.std.specs.Arc.{arc_value};
+ghost use Rattle.std.specs.List.{AllZip};
 ghost use Rattle.stack_core.specs.Interleaving.{IsInterleaving};
 ghost use Rattle.merged_stacks.specs.Merged.{all_samples};
 ghost use Rattle.merged_stacks.specs.Timeline.{samples_of, total_weight};
@@ -10,6 +11,7 @@ ghost use Rattle.run_options.specs.Filters.{kept_rest};
 ghost use Rattle.source_lists.specs.Lists.{AreLimited};
 ghost use Rattle.source_lists.specs.Runs.{IsOpen, IsReadOut, MayGo, MayStop, ReadsLists};
 ghost use Rattle.source_lists.specs.Sources.{asked_rests, known_inputs, whole_weight};
+ghost use Rattle.source_lists.specs.Summing.{IsFound, IsSummed};
 ghost use Rattle.source_lists.specs.checked.OpenRuns.{IsOfReaders, IsOfRun};
 
 use crate::gating::Gating;
@@ -21,7 +23,7 @@ use crate::source_lists::SourceLists;
 use crate::source_readers::{filtered_readers_of, readers_of};
 use ring_collect::{CollectFault, Collected};
 use run_options::Options;
-use stack_core::{Gate, RowSink};
+use stack_core::{Gate, NoSink, RowSink};
 use std::alloc::{AllocError, Global};
 use std::sync::{Arc, Wait};
 use std::thread::Threads;
@@ -75,11 +77,12 @@ impl<T: Threads + Wait + Copy + Send + 'static> Runner<'_, T> {
         }
     }
 
+    /// Reads each source to its end.
     fn read_open<S: RowSink>(&self, inputs: Vec<Input>, sink: &mut S) -> RunResult<Run>
         requires { length inputs.items ≤ 64 }
-        ensures reads { IfOk result (λ run. IfSome (known_inputs inputs.items) (λ sources.
-            ReadsLists (λ _ _. ⊥) (λ _ _. Unit {0}) (asked_rests self.now.options.now sources)
-            run.kept.lists run.kept.order)) }
+        ensures found { IfOk result (λ run. IfSome (known_inputs inputs.items) (λ sources.
+            AllZip (IsFound self.now.is_summed) (asked_rests self.now.options.now sources)
+            (map seen_as_rest run.kept.lists))) }
         ensures weight { IfOk result (λ run. IfSome (known_inputs inputs.items) (λ sources.
             run.whole_weight ≡ Some (whole_weight self.now.options.now sources))) }
         ensures weighed { IfOk result (λ run. IsSome run.whole_weight) }
@@ -169,9 +172,47 @@ pub fn read<
         → source < length inputs.items }
     ensures setting { S.setting sink.new ≡ S.setting sink.old }
 {
-    let runner = Runner { rt, alloc, options };
+    let runner = Runner {
+        rt,
+        alloc,
+        options,
+        is_summed: false,
+    };
     match gating {
         Gating::Open => runner.read_open(inputs, sink),
         Gating::Asked(gate) => runner.read_asked(inputs, gate, sink),
     }
+}
+
+/// The same where the order of samples is not asked for: samples are found that weigh like those of each source, stack by stack. A stack
+/// costs twelve bytes where it comes first and, where it comes again, twelve more for all of its other samples.
+pub fn read_sums<T: Threads + Wait + Copy + Send + 'static>(
+    rt: &T,
+    alloc: Global,
+    inputs: Vec<Input>,
+    options: &Options,
+) -> Result<Run, RunFault>
+    requires { length inputs.items ≤ 64 }
+    ensures sums { IfOk result (λ run. IfSome (known_inputs inputs.items) (λ sources.
+        AllZip IsSummed (asked_rests options.now sources) (map seen_as_rest run.kept.lists))) }
+    ensures weight { IfOk result (λ run. IfSome (known_inputs inputs.items)
+        (λ sources. run.whole_weight ≡ Some (whole_weight options.now sources))) }
+    ensures weighed { IfOk result (λ run. IsSome run.whole_weight) }
+    ensures count { IfOk result (λ run. length run.kept.lists ≡ length inputs.items) }
+    ensures ordered { IfOk result (λ run.
+        IsInterleaving run.kept.order (samples_of run.kept.lists)) }
+    ensures unstopped { IfOk result (λ run. All IsReadOut run.kept.lists) }
+    ensures refused { (source : ℕ)
+        → IsErrOf result (RunFault.Collect (CollectFault.Unfinished source))
+        → source < length inputs.items }
+    ensures unreadable { (source : ℕ) → IsErrOf result (RunFault.Unreadable source)
+        → source < length inputs.items }
+{
+    let runner = Runner {
+        rt,
+        alloc,
+        options,
+        is_summed: true,
+    };
+    runner.read_open(inputs, &mut NoSink::new())
 }

@@ -9,4 +9,6 @@ pub(crate) struct Runner<'a, T> {
     pub(crate) rt: &'a T,
     pub(crate) alloc: Global,
     pub(crate) options: &'a Options,
+    /// Whether samples of equal stacks are summed, where no gate is asked.
+    pub(crate) is_summed: bool,
 }

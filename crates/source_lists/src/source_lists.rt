@@ -1,9 +1,11 @@
 //! What a run collected of its sources.
 
-ghost use Rattle.std.specs.Prelude.{◌≡◌, ◌<◌, ◌^◌, ◌∷◌, [], IfOk, length, map};
+ghost use Rattle.std.specs.Prelude.{◌≡◌, ◌<◌, ◌≤◌, ◌^◌, ◌∷◌, [], All, IfOk, length, map};
 ghost use Rattle.std.specs.List.{list_any};
 ghost use Rattle.stack_core.specs.Interleaving.{IsInterleaving};
 ghost use Rattle.stack_core.specs.Reading.{IsSourceLimited};
+ghost use Rattle.sample_tables.specs.Samples.{IsLimited};
+ghost use Rattle.sample_tables.specs.declared.samples.TheConstants.{WEIGHT_LIMIT};
 ghost use Rattle.merged_stacks.specs.Merged.{all_samples};
 ghost use Rattle.merged_stacks.specs.Timeline.{samples_of, timeline, total_weight};
 ghost use Rattle.ring_collect.specs.Collection.{seen_as_rest};
@@ -45,10 +47,12 @@ impl Model for SourceLists {
 impl SourceLists {
     /// What a run collected.
     pub(crate) fn of(run: Collected) -> SourceLists
-        requires limits { AreLimited run.lists.items }
+        requires few { length run.lists.items ≤ 64 }
+        requires totals { All (λ list. total_weight list.samples ≤ WEIGHT_LIMIT) run.lists.items }
         requires ordered { IsInterleaving run.order.items (samples_of run.lists.items) }
         ensures { result ≡ record { lists = run.lists.items; order = run.order.items } }
     {
+        recall_limits(&run.lists);
         SourceLists {
             lists: run.lists,
             order: run.order,
@@ -169,5 +173,14 @@ impl SourceLists {
         ensures timeline { result ≡ total_weight (timeline (samples_of self.now.lists)) }
     {
         total_weight(self.lists())
+    }
+}
+
+/// For contracts alone: the samples of lists are limited, each by itself.
+fn recall_limits(lists: &[SourceList])
+    ensures { All (λ list. All IsLimited list.samples) lists.now }
+{
+    for list in lists {
+        let _count = list.len();
     }
 }

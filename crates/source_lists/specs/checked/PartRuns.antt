@@ -1,11 +1,19 @@
 -- What is found by reading a source in parts.
-use Rattle.std.specs.Prelude.{IfOk, IfSome, Option, Result, map}
+use Rattle.std.specs.Prelude.{ℕ, Bool, IfOk, IfSome, List, Option, Result, map}
+use Rattle.std.specs.List.{AllZip}
 use Rattle.std.specs.declared.alloc.AllocError.{AllocError}
 use Rattle.stack_core.specs.Reading.{Rest}
 use Rattle.ring_collect.specs.Collection.{seen_as_rest}
+use Rattle.source_lists.specs.Summing.{IsFound}
 use Rattle.source_lists.specs.checked.Parts.{ArePartsOf}
 use Rattle.source_lists.specs.declared.part_runs.CleanParts.{CleanParts}
 
+-- the parts of a source, and what was found of each
+pub record ArePartsFound (is_summed : Bool) (whole : Option Rest) (found : List Rest) (ignored : ℕ) : Type 0 where
+  pub parts : List Rest
+  pub are_parts : ArePartsOf whole parts ignored
+  pub are_found : AllZip (IsFound is_summed) parts found
+
 -- parts of this source, if any are found
-abbrev pub FindsPartsOf : Option Rest → Result (Option CleanParts) AllocError → Type 0
-FindsPartsOf whole result = IfOk result (λ found. IfSome found (λ parts. ArePartsOf whole (map seen_as_rest parts.lists.items) parts.ignored))
+abbrev pub FindsPartsOf : Bool → Option Rest → Result (Option CleanParts) AllocError → Type 0
+FindsPartsOf is_summed whole result = IfOk result (λ found. IfSome found (λ parts. ArePartsFound is_summed whole (map seen_as_rest parts.lists.items) parts.ignored))

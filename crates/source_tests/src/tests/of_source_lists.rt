@@ -2,6 +2,7 @@
 
 mod parts;
 mod stored;
+mod sums;
 
 use super::holds;
 use profile_messages::SampleType;

@@ -1,7 +1,6 @@
 use Rattle.std.proofs.Common.{◌≡◌, ◌∙◌, ◌<◌, ◌+◌, ◌++◌, ◌∷◌, [], List, Option, ap, arith, length, subst, sym, take, ℕ}
 use Rattle.std.specs.Prelude.{slice_get}
 use Rattle.std.proofs.lemmas.List.{take_all, take_more}
-use Rattle.folded_lines.specs.declared.strictness.StrictFault.{StrictFault}
 use Rattle.run_options.specs.declared.formats.Format.{Format}
 use Rattle.source_lists.specs.Sources.{known_inputs}
 use Rattle.source_lists.specs.checked.StrictEndings.{HasFault, HaveFaults}

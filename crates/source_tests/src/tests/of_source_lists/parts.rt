@@ -18,7 +18,11 @@ use std::sync::{Arc, Wait};
 use std::test::Fail;
 use std::thread::Threads;
 
-fn one_input(alloc: Global, format: Format, bytes: &[u8]) -> Result<Vec<Input>, AllocError>
+pub(super) fn one_input(
+    alloc: Global,
+    format: Format,
+    bytes: &[u8],
+) -> Result<Vec<Input>, AllocError>
     ensures { IfOk result (λ inputs. length inputs.items ≡ 1) }
 {
     Ok(vec![in alloc; input_of(alloc, format, bytes)?]?)
@@ -61,7 +65,7 @@ pub(super) fn read_open<T: Threads + Wait + Copy + Send + 'static>(
     read(rt, alloc, inputs, &options, gating, &mut NoSink::new())
 }
 
-fn read_as_one<T: Threads + Wait + Copy + Send + 'static>(
+pub(super) fn read_as_one<T: Threads + Wait + Copy + Send + 'static>(
     rt: &T,
     alloc: Global,
     format: Format,
@@ -136,6 +140,14 @@ fn append_sections(out: &mut Vec<u8>, sections: &[Section]) -> Result<(), AllocE
         }
     }
     Ok(())
+}
+
+/// A long text of few stacks, which is read in parts.
+pub(super) fn long_text(alloc: Global) -> Result<Vec<u8>, AllocError> {
+    let mut bytes = Vec::new(alloc);
+    let (_, sections, _) = TEXTS[0];
+    append_sections(&mut bytes, sections)?;
+    Ok(bytes)
 }
 
 fn is_read_alike<T: Threads + Wait + Copy + Send + 'static>(

@@ -1,22 +1,20 @@
 use denote.Param.Send.{sendable}
-use Rattle.std.proofs.Common.{◌≡◌, ◌∙◌, ◌<◌, All, IfSome, List, [], Ok, Option, ap, arith, length, map, refl, subst, sym, ℕ}
-use Rattle.std.proofs.lemmas.List.{length-map}
+use Rattle.std.proofs.Common.{◌≡◌, ◌∙◌, ◌<◌, All, IfSome, List, [], Ok, Option, ap, arith, length, map, subst, sym, ℕ}
 use Rattle.stack_core.specs.Ledgers.{ListState}
 use Rattle.stack_core.specs.Reading.{IsSourceLimited, Rest}
 use Rattle.stack_core.specs.RowReading.{GivesSome}
 use Rattle.ring_collect.specs.Collection.{seen_as_rest}
-use Rattle.ring_collect.proofs.GivenRests.{given_count}
 use Rattle.source_lists.specs.Lists.{ListsState}
 use Rattle.source_lists.specs.Runs.{IsReadOut}
 use Rattle.source_lists.specs.checked.InputReaders.{IsReaderOf, input_gives, input_told}
 use Rattle.source_lists.specs.checked.OpenRuns.{ReadsOpen}
 use Rattle.source_lists.specs.declared.run_faults.RunFault.TheVariants.{Collect}
 use Rattle.source_lists.proofs.FaultLemmas.{handed_on}
-use Rattle.source_lists.proofs.InputLemmas.{whole_read}
-use Rattle.source_lists.proofs.KeptLemmas.{limited_lists}
+use Rattle.source_lists.proofs.InputLemmas.{found_count, whole_read}
 use Rattle.source_lists.proofs.KnownInputs.{zip_all, zip_count}
 use Rattle.source_lists.proofs.PartLemmas.{all_given}
 use Rattle.source_lists.proofs.ReaderThreads.{input_send}
+use Rattle.source_lists.proofs.FoundRests.{found_totals, list_totals}
 use Rattle.source_lists.proofs.runners.Runner.collect_each.Goals as goal
 
 pub run_open-requires-send-R : goal.run_open-requires-send-R
@@ -43,32 +41,35 @@ returns-in_err-run-clause-err g c =
 
 pub returns-in-Some-clause-err : goal.returns-in-Some-clause-err
 returns-in-Some-clause-err g c =
-    let inputs = c.args.inputs.items in
+    let readers = c.in_ok-readers.readers.items in
+    let below = subst (λ (found : Option ℕ). IfSome found (λ source. source < length c.deref-2.result.now)) c.in-Some.is c.in_ok-source.ensures.within in
+    omega (arith, below, ap length c.deref-2.ensures.value, found_count c.args.self.now.is_summed readers c.in_ok-run.run'.lists.items c.in_ok-run.ensures.given, zip_count (IsReaderOf c.args.self.now.options.now) c.args.inputs.items readers c.in_ok-readers.ensures)
+
+pub of-requires-clause-few : goal.of-requires-clause-few
+of-requires-clause-few g c =
+    let readers = c.in_ok-readers.readers.items in
+    omega (arith, c.requires, found_count c.args.self.now.is_summed readers c.in_ok-run.run'.lists.items c.in_ok-run.ensures.given, zip_count (IsReaderOf c.args.self.now.options.now) c.args.inputs.items readers c.in_ok-readers.ensures)
+
+pub of-requires-clause-totals : goal.of-requires-clause-totals
+of-requires-clause-totals g c =
+    let is_of = IsReaderOf c.args.self.now.options.now in
     let readers = c.in_ok-readers.readers.items in
     let lists = c.in_ok-run.run'.lists.items in
-    let below = subst (λ (found : Option ℕ). IfSome found (λ source. source < length c.deref-2.result.now)) c.in-Some.is c.in_ok-source.ensures.within in
-    omega (arith, below, ap length c.deref-2.ensures.value, length-map lists seen_as_rest, given_count input_gives readers (map seen_as_rest lists) c.in_ok-run.ensures.given, zip_count (IsReaderOf c.args.self.now.options.now) inputs readers c.in_ok-readers.ensures)
-
-pub of-requires-clause-limits : goal.of-requires-clause-limits
-of-requires-clause-limits g c =
-    let is_of = IsReaderOf c.args.self.now.options.now in
-    let inputs = c.args.inputs.items in
-    let readers = c.in_ok-readers.readers.items in
-    let rests = map seen_as_rest c.in_ok-run.run'.lists.items in
-    let each = zip_all is_of (λ reader. (rest : Rest) → input_gives reader rest → IsSourceLimited rest.samples) (λ input reader of. of.limited) inputs readers c.in_ok-readers.ensures in
-    limited_lists c.in_ok-run.run'.lists.items rests refl (all_given input_gives (λ rest. IsSourceLimited rest.samples) readers rests each c.in_ok-run.ensures.given)
-    (omega (arith, given_count input_gives readers rests c.in_ok-run.ensures.given, zip_count is_of inputs readers c.in_ok-readers.ensures, c.requires))
+    let given = c.in_ok-run.ensures.given in
+    let each = zip_all is_of (λ reader. (rest : Rest) → input_gives reader rest → IsSourceLimited rest.samples) (λ input reader of. of.limited) c.args.inputs.items readers c.in_ok-readers.ensures in
+    list_totals lists (found_totals c.args.self.now.is_summed given.rests (map seen_as_rest lists) given.are_found (all_given input_gives (λ rest. IsSourceLimited rest.samples) readers given.rests each given.are_given))
 
 pub returns-clause-reads : goal.returns-clause-reads
 returns-clause-reads g c =
     let options = c.args.self.now.options.now in
+    let is_summed = c.args.self.now.is_summed in
     let inputs = c.args.inputs.items in
     let readers = c.in_ok-readers.readers.items in
     let lists = c.in_ok-run.run'.lists.items in
     let given = c.in_ok-run.ensures.given in
     let out = subst (λ (lists : List ListState). All IsReadOut lists) c.deref-2.ensures.value (c.first_unreadable.ensures.none (c.in_ok-source.was ∙ ap Ok c.in_default.is)) in
-    subst (λ (run : ListsState). ReadsOpen options inputs run.lists) (sym c.of.ensures) (record {
-      whole = whole_read options inputs readers lists c.in_ok-readers.ensures given out;
-      count = sym (length-map lists seen_as_rest) ∙ given_count input_gives readers (map seen_as_rest lists) given ∙ zip_count (IsReaderOf options) inputs readers c.in_ok-readers.ensures;
+    subst (λ (run : ListsState). ReadsOpen options is_summed inputs run.lists) (sym c.of.ensures) (record {
+      whole = whole_read options inputs readers is_summed lists c.in_ok-readers.ensures given out;
+      count = found_count is_summed readers lists given ∙ zip_count (IsReaderOf options) inputs readers c.in_ok-readers.ensures;
       unstopped = out;
     })

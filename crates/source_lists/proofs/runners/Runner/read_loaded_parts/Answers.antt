@@ -27,7 +27,7 @@ returns-in_ok-readers-in-Folded-clause-parts g c =
     parts_of_run (λ reader rest. rest ≡ reader.rest) readers (Some (whole_rest options source))
     (loaded_parts (λ (reader : folded.State) rest. rest ≡ reader.rest) (λ reader. reader.rest) (λ reader other is. is) readers (whole_rest options source)
     (subst (λ (whole : Rest). ReadsInParts whole (map (λ (reader : folded.State). reader.rest) readers)) (sym same) c.in_ok-readers-in-Folded.ensures.parts)
-    (limited_bytes source.0 source.1 options.pick options.naming)) c.read_clean.result c.read_clean.ensures.given c.read_clean.ensures.clean
+    (limited_bytes source.0 source.1 options.pick options.naming)) c.args.self.now.is_summed c.read_clean.result c.read_clean.ensures.given c.read_clean.ensures.clean
 
 pub returns-in_ok-readers-in-Pprof-clause-parts : goal.returns-in_ok-readers-in-Pprof-clause-parts
 returns-in_ok-readers-in-Pprof-clause-parts g c =
@@ -39,4 +39,4 @@ returns-in_ok-readers-in-Pprof-clause-parts g c =
     parts_of_run (λ reader rest. rest ≡ reader.rest) readers (Some (whole_rest options source))
     (loaded_parts (λ (reader : pprof.State) rest. rest ≡ reader.rest) (λ reader. reader.rest) (λ reader other is. is) readers (whole_rest options source)
     (subst (λ (whole : Rest). ReadsInParts whole (map (λ (reader : pprof.State). reader.rest) readers)) (sym same) c.in_ok-readers-in-Pprof.ensures.parts)
-    (limited_bytes source.0 source.1 options.pick options.naming)) c.read_clean-in-Pprof.result c.read_clean-in-Pprof.ensures.given c.read_clean-in-Pprof.ensures.clean
+    (limited_bytes source.0 source.1 options.pick options.naming)) c.args.self.now.is_summed c.read_clean-in-Pprof.result c.read_clean-in-Pprof.ensures.given c.read_clean-in-Pprof.ensures.clean

@@ -1,8 +1,7 @@
-use Rattle.std.proofs.Common.{◌≡◌, IfOk, IfSome, List, Some, map, subst, ℕ}
-use Rattle.ring_collect.specs.Collection.{seen_as_rest}
+use Rattle.std.proofs.Common.{◌≡◌, IfSome, List, Some, subst, ℕ}
 use Rattle.run_options.specs.declared.formats.Format.{Format}
 use Rattle.source_lists.specs.Sources.{whole_rest}
-use Rattle.source_lists.specs.checked.Parts.{ArePartsOf}
+use Rattle.source_lists.specs.checked.PartRuns.{FindsPartsOf}
 use Rattle.source_lists.proofs.PartLemmas.{profile_parts}
 use Rattle.source_lists.proofs.runners.Runner.read_profile_parts.Goals as goal
 
@@ -12,6 +11,7 @@ returns-clause-parts g c =
     let text = c.args.text.now in
     let bytes = c.in-Some.bytes.items in
     let known : IfSome text (λ all. bytes ≡ all) = rw c.in-Some.is at c.in_ok-bytes.ensures in
-    profile_parts text options bytes known c.read_loaded_parts.result
-    (subst (λ (source : Format × List ℕ). IfOk c.read_loaded_parts.result (λ found. IfSome found (λ parts. ArePartsOf (Some (whole_rest options source)) (map seen_as_rest parts.lists.items) parts.ignored)))
+    let is_summed = c.args.self.now.is_summed in
+    profile_parts text options bytes known is_summed c.read_loaded_parts.result
+    (subst (λ (source : Format × List ℕ). FindsPartsOf is_summed (Some (whole_rest options source)) c.read_loaded_parts.result)
     c.in_ok-source.ensures c.read_loaded_parts.ensures.parts)

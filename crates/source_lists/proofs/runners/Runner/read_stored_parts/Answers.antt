@@ -15,4 +15,4 @@ pub returns-clause-parts : goal.returns-clause-parts
 returns-clause-parts g c =
     let readers = c.in_ok-readers.readers.items in
     let text = c.args.text.now in
-    parts_of_run stream_gives readers (option_map read_folded text) (stored_parts stream_gives readers text c.in_ok-readers.ensures.parts c.in_ok-readers.ensures.limits) c.read_clean.result c.read_clean.ensures.given c.read_clean.ensures.clean
+    parts_of_run stream_gives readers (option_map read_folded text) (stored_parts stream_gives readers text c.in_ok-readers.ensures.parts c.in_ok-readers.ensures.limits) c.args.self.now.is_summed c.read_clean.result c.read_clean.ensures.given c.read_clean.ensures.clean

@@ -1,6 +1,5 @@
 use Rattle.std.proofs.Common.{◌≡◌, ◌∙◌, ap, subst, sym}
 use Rattle.std.proofs.lemmas.Bool.{false≢true}
-use Rattle.stack_core.specs.Reading.{Rest}
 use Rattle.source_lists.specs.checked.StoredProfiles.{WasTried, profile_gives, profile_told}
 use Rattle.source_lists.specs.declared.stored_profile.StoredProfile.{StoredProfile}
 use Rattle.source_lists.specs.declared.stored_profile.StoredProfile.TheVariants.{Loaded, Unreadable}
