@@ -13,7 +13,7 @@ use clap::Command;
 use std::alloc::{AllocError, Global};
 
 // The number and the day of the newest heading in CHANGELOG.md, and what proved and built the program.
-const VERSION: &str = "0.5.1 (2026-12-01, rattle-kit-13f logic dac8208d650f15bf)";
+const VERSION: &str = "0.5.2 (2026-12-01, rattle-kit-13f logic dac8208d650f15bf)";
 
 const NOTES: &str = "\
 Formats:

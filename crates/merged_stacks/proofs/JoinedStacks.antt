@@ -1,5 +1,5 @@
 -- Joined rows, by their names, are the merged stacks.
-use Rattle.std.proofs.Common.{◌≡◌, ℕ, zero, suc, ◌+◌, ◌<◌, ◌≤◌, ◌^◌, List, [], ◌∷◌, ◌++◌, Bool, true, false, true≢false, cond, ◌&&◌, nat_eq, length, map, take, drop, get_or, slice_index, All, sum_by, Some, None, T, IsTrue, refl, sym, ap, ◌∙◌, subst, arith, is_lt, IsPermutation}
+use Rattle.std.proofs.Common.{◌≡◌, ℕ, zero, suc, ◌+◌, ◌<◌, ◌≤◌, ◌^◌, List, [], ◌∷◌, ◌++◌, Bool, true, false, true≢false, cond, ◌&&◌, nat_eq, length, map, take, drop, get_or, slice_index, All, sum_by, Some, None, T, IsTrue, inl, inr, refl, sym, ap, ◌∙◌, subst, arith, is_lt, IsPermutation}
 use Rattle.std.specs.Prelude.{unwrap_or}
 use Rattle.std.specs.List.{AllByRecursion}
 use Rattle.std.specs.Ordering.{nat_cmp, is_eq, ordering_then, ordering_reverse}
@@ -25,6 +25,7 @@ use Rattle.merged_stacks.specs.Merged.{weighed, Weighed, sum_at, merged, merged_
 use Rattle.merged_stacks.specs.RankedStacks.{Ranking, ranked_samples, ranks_at, sample_of}
 use Rattle.merged_stacks.specs.checked.Ranks.{AreRanks, all_told}
 use Rattle.merged_stacks.specs.checked.Ranked.{Ranked, join_front, joined, AreAscending, named_row, named_rows, IsRankedStack, IsNamedBy, HasSums, AreMerged}
+use Rattle.ranked_rows.specs.Gathering.{HasRanks, IsGathered, with_more}
 use Rattle.ranked_rows.proofs.JoinedRows.{joined-total}
 use Rattle.ranked_rows.proofs.RankedNames.{above}
 use Rattle.merged_stacks.proofs.MergedRows.{stack_cmp_total, sum_at-cons, sum_at-append, sum_at-one, sum_at-rows, merged-only, is_true, as_true, first, second}
@@ -236,6 +237,29 @@ module _ (names : List (List ℕ)) (samples : List Sample) (rows sorted : List R
 pub no_sums : (names : List (List ℕ)) → HasSums names [] []
 no_sums names = record { sums = λ q. refl; total = refl; each = tt }
 
+-- a row that weighs more
+module _ (names : List (List ℕ)) (more : ℕ) where
+  more-sum_at : (rows : List Ranked) (at : ℕ) (q : Stack) → at < length rows
+      → sum_at (named_rows names (with_more rows at more)) q ≡ sum_at (named_rows names rows) q + cond (is_eq (stack_cmp q (map (name_at names) (get_or rows at ([], 0)).0))) more 0
+  more-sum_at [] at q lt = absurd (omega (arith, lt))
+  more-sum_at (row ∷ rows) zero q lt =
+      let stack : Stack = map (name_at names) row.0 in
+      let rest = named_rows names rows in
+      omega (arith, sum_at-cons (stack, row.1 + more) rest q, split (is_eq (stack_cmp q stack)) row.1 more (sum_at rest q), sum_at-cons (stack, row.1) rest q)
+  more-sum_at (row ∷ rows) (suc at) q lt =
+      omega (arith, sum_at-cons (named_row names row) (named_rows names (with_more rows at more)) q, more-sum_at rows at q (omega (arith, lt)), sum_at-cons (named_row names row) (named_rows names rows) q)
+
+  more-total : (rows : List Ranked) (at : ℕ) → at < length rows → sum_by (λ (row : Ranked). row.1) (with_more rows at more) ≡ sum_by (λ (row : Ranked). row.1) rows + more
+  more-total [] at lt = absurd (omega (arith, lt))
+  more-total (row ∷ rows) zero lt = omega (arith, sum_by-cons (λ (row : Ranked). row.1) (row.0, row.1 + more) rows, sum_by-cons (λ (row : Ranked). row.1) row rows)
+  more-total (row ∷ rows) (suc at) lt =
+      omega (arith, sum_by-cons (λ (row : Ranked). row.1) row (with_more rows at more), more-total rows at (omega (arith, lt)), sum_by-cons (λ (row : Ranked). row.1) row rows)
+
+  more-each : (rows : List Ranked) (at : ℕ) → AllByRecursion (IsRankedStack names) rows → AllByRecursion (IsRankedStack names) (with_more rows at more)
+  more-each [] at h = tt
+  more-each (row ∷ rows) zero h = (record { below = h.0.below; depth = h.0.depth; positive = omega (arith, h.0.positive) }, h.1)
+  more-each (row ∷ rows) (suc at) h = (h.0, more-each rows at h.1)
+
 module _ (names : List (List ℕ)) (samples : List Sample) (rows : List Ranked) (sums : HasSums names samples rows) (s : Sample) where
   more_total : total_weight (samples ++ s ∷ []) ≡ total_weight samples + s.weight
   more_total = sum_by-append (λ (sample : Sample). sample.weight) samples (s ∷ []) ∙ omega (arith, sum_by-cons (λ (sample : Sample). sample.weight) s [])
@@ -244,7 +268,7 @@ module _ (names : List (List ℕ)) (samples : List Sample) (rows : List Ranked) 
   more_sum q =
       ap (λ all. sum_at all q) (map-append (λ (sample : Sample). (sample.stack, sample.weight)) samples (s ∷ [])) ∙ sum_at-append (weighed samples) ((s.stack, s.weight) ∷ []) q ∙ ap (λ n. sum_at (weighed samples) q + n) (sum_at-one (s.stack, s.weight) q)
 
-  pub sums_more : (ranks : List ℕ) → map (name_at names) ranks ≡ s.stack → All (λ rank. rank < length names) ranks → length ranks ≤ FRAME_LIMIT → 0 < s.weight
+  sums_more : (ranks : List ℕ) → map (name_at names) ranks ≡ s.stack → All (λ rank. rank < length names) ranks → length ranks ≤ FRAME_LIMIT → 0 < s.weight
       → HasSums names (samples ++ s ∷ []) (rows ++ (ranks, s.weight) ∷ [])
   sums_more ranks named below depth positive = record {
     sums = λ q. ap (λ all. sum_at all q) (map-append (named_row names) rows ((ranks, s.weight) ∷ [])) ∙ sum_at-append (named_rows names rows) ((map (name_at names) ranks, s.weight) ∷ []) q
@@ -252,6 +276,19 @@ module _ (names : List (List ℕ)) (samples : List Sample) (rows : List Ranked) 
     total = sum_by-append (λ (row : Ranked). row.1) rows ((ranks, s.weight) ∷ []) ∙ omega (arith, sums.total, more_total, sum_by-cons (λ (row : Ranked). row.1) (ranks, s.weight) []);
     each = recursion_from_All (IsRankedStack names) _ (All-push (IsRankedStack names) rows (ranks, s.weight) (All-from_recursion (IsRankedStack names) rows sums.each) (record { below = below; depth = depth; positive = positive }));
   }
+
+  sums_joined : (ranks : List ℕ) (at : ℕ) → map (name_at names) ranks ≡ s.stack → HasRanks ranks rows at → HasSums names (samples ++ s ∷ []) (with_more rows at s.weight)
+  sums_joined ranks at named has = record {
+    sums = λ q. more-sum_at names s.weight rows at q has.within ∙ (λ i. sums.sums q i + cond (is_eq (stack_cmp q ((ap (map (name_at names)) has.same ∙ named) i))) s.weight 0) ∙ sym (more_sum q);
+    total = omega (arith, more-total names s.weight rows at has.within, sums.total, more_total);
+    each = more-each names s.weight rows at sums.each;
+  }
+
+  -- a row that comes stands behind the others, or is added to one
+  pub sums_gathered : (ranks : List ℕ) (new : List Ranked) → map (name_at names) ranks ≡ s.stack → All (λ rank. rank < length names) ranks → length ranks ≤ FRAME_LIMIT → 0 < s.weight
+      → IsGathered (ranks, s.weight) rows new → HasSums names (samples ++ s ∷ []) new
+  sums_gathered ranks new named below depth positive (inl is) = subst (HasSums names (samples ++ s ∷ [])) (sym is) (sums_more ranks named below depth positive)
+  sums_gathered ranks new named below depth positive (inr found) = subst (HasSums names (samples ++ s ∷ [])) (sym found.2) (sums_joined ranks found.0 named found.1)
 
   none : (b : Bool) (n : ℕ) → n ≡ 0 → cond b n 0 ≡ 0
   none true n e = e

@@ -12,7 +12,7 @@ ghost use Rattle.merged_stacks.specs.checked.Growing.{not_begun, came, lists_in}
 
 use crate::list_sums::ListSums;
 use crate::merged::MergedStacks;
-use ranked_rows::{Alone, NameRanks, RankedRows};
+use ranked_rows::{Alone, GatheredRows, NameRanks, RankedRows};
 use stack_core::SourceList;
 use std::alloc::{AllocError, Global};
 use std::marker::Model;
@@ -125,12 +125,12 @@ fn came_rows(alloc: Global, parts: &[ListSums<'_>], ranks: &[u32]) -> Result<Ran
         → IsNamedBy names ranks.now (all_told (lists_in parts.now))
         → HasSums names (all_samples (map came parts.now)) rows) }
 {
-    let mut rows = RankedRows::new(alloc);
+    let mut rows = GatheredRows::with_room(alloc, 0)?;
     let mut rest = ranks;
     for part in parts {
         let (own, others) = rest.split_at(part.told());
         part.add_to(&mut rows, own)?;
         rest = others;
     }
-    Ok(rows)
+    Ok(rows.into_rows())
 }

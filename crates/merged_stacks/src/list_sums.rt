@@ -10,7 +10,7 @@ ghost use Rattle.merged_stacks.specs.checked.Growing.{not_begun, came};
 ghost use Rattle.merged_stacks.specs.checked.Kept.{kept_sample, kept_samples, ArePicked, HaveSameSums};
 ghost use Rattle.merged_stacks.specs.checked.Ranked.{HasSums, IsNamedBy};
 
-use ranked_rows::RankedRows;
+use ranked_rows::{GatheredRows, RankedRows};
 use sample_tables::RowTable;
 use stack_core::SourceList;
 use std::alloc::{AllocError, Global};
@@ -90,7 +90,7 @@ impl<'a> ListSums<'a> {
     }
 
     /// Appends the samples that came, by the ranks of the list's told names.
-    pub(crate) fn add_to(&self, rows: &mut RankedRows, ranks: &[u32]) -> Result<(), AllocError>
+    pub(crate) fn add_to(&self, rows: &mut GatheredRows, ranks: &[u32]) -> Result<(), AllocError>
         requires { length ranks.now ≡ length self.now.list.told }
         ensures { OnOk result ((names : List (List ℕ)) (samples : List Sample)
             → IsNamedBy names ranks.now self.now.list.told → HasSums names samples rows.old
@@ -129,7 +129,7 @@ fn sums_of(alloc: Global, list: &SourceList) -> Result<Vec<u64>, AllocError>
 
 /// Appends the stacks of these numbers, each with its sum.
 fn add_numbered(
-    rows: &mut RankedRows,
+    rows: &mut GatheredRows,
     list: &SourceList,
     ranks: &[u32],
     sums: &[u64],
@@ -151,7 +151,7 @@ fn add_numbered(
 
 /// Appends the samples of one stack, unless they weigh nothing.
 fn add_row(
-    rows: &mut RankedRows,
+    rows: &mut GatheredRows,
     numbers: &[u32],
     ranks: &[u32],
     weight: u64,
@@ -165,7 +165,7 @@ fn add_row(
     if weight == 0 {
         return Ok(());
     }
-    rows.push(numbers, ranks, weight)
+    rows.add(numbers, ranks, weight)
 }
 
 /// The stacks that a table keeps, each with this sum, by the ranks of its names.
@@ -181,11 +181,11 @@ pub(crate) fn rows_of_sums(
         → HasSums names (map (kept_sample table.now.names table.now.stacks sums.now)
         (range_with_len 0 (length table.now.stacks))) rows) }
 {
-    let mut rows = RankedRows::new(alloc);
+    let mut rows = GatheredRows::with_room(alloc, 0)?;
     for number in 0..table.stack_count() {
         add_row(&mut rows, table.stack(number), ranks, sums[number])?;
     }
-    Ok(rows)
+    Ok(rows.into_rows())
 }
 
 /// The numbers of the stacks that a list keeps, by the ranks of their names.
@@ -203,7 +203,7 @@ fn sorted_stacks(alloc: Global, list: &SourceList, ranks: &[u32]) -> Result<Vec<
 /// Appends the samples of a list, by the ranks of its told names.
 pub(crate) fn add_list(
     alloc: Global,
-    rows: &mut RankedRows,
+    rows: &mut GatheredRows,
     list: &SourceList,
     ranks: &[u32],
 ) -> Result<(), AllocError>
@@ -237,21 +237,21 @@ fn rows_of_list(alloc: Global, list: SourceList, ranks: &[u32]) -> Result<Ranked
 }
 
 /// Appends the samples of a list that is given up. Those of the first list stay where they are.
-pub(crate) fn with_list(
+pub(crate) fn give_list(
     alloc: Global,
-    mut rows: RankedRows,
+    rows: &mut GatheredRows,
     list: SourceList,
     ranks: &[u32],
-) -> Result<RankedRows, AllocError>
+) -> Result<(), AllocError>
     requires ranks { length ranks.now ≡ length list.told }
     requires total { total_weight list.samples < 2 ^ 64 }
-    ensures { IfOk result (λ all. (names : List (List ℕ)) (samples : List Sample)
-        → IsNamedBy names ranks.now list.told → HasSums names samples rows
-        → HasSums names (samples ++ list.samples) all) }
+    ensures { OnOk result ((names : List (List ℕ)) (samples : List Sample)
+        → IsNamedBy names ranks.now list.told → HasSums names samples rows.old
+        → HasSums names (samples ++ list.samples) rows.new) }
 {
-    if rows.len() == 0 {
-        return rows_of_list(alloc, list, ranks);
+    if rows.len() > 0 {
+        return add_list(alloc, rows, &list, ranks);
     }
-    add_list(alloc, &mut rows, &list, ranks)?;
-    Ok(rows)
+    rows.begin(rows_of_list(alloc, list, ranks)?);
+    Ok(())
 }

@@ -1,6 +1,6 @@
 //! Merged stacks: each stack with weight once, in order, with the sum of its samples.
 
-ghost use Rattle.std.specs.Prelude.{◌≡◌, ◌<◌, ◌≤◌, ◌^◌, ℕ, List, All, IfOk, IsTrue, length, map, slice_index, string_bytes};
+ghost use Rattle.std.specs.Prelude.{◌≡◌, ◌<◌, ◌≤◌, ◌^◌, ℕ, [], List, All, IfOk, IsTrue, length, map, slice_index, string_bytes};
 ghost use Rattle.sample_tables.specs.declared.samples.Sample.{Sample};
 ghost use Rattle.sample_tables.specs.declared.samples.TheConstants.{FRAME_LIMIT};
 ghost use Rattle.sample_tables.specs.Rows.{name_at, sample_at};
@@ -12,9 +12,9 @@ ghost use Rattle.merged_stacks.specs.Sums.{HaveSameSums, kept_samples};
 ghost use Rattle.merged_stacks.specs.checked.Ranks.{all_told};
 ghost use Rattle.merged_stacks.specs.checked.Ranked.{AreMerged, HasSums, IsNamedBy};
 
-use crate::list_sums::{add_list, rows_of_sums, with_list};
+use crate::list_sums::{add_list, give_list, rows_of_sums};
 use crate::stack_rows::StackRows;
-use ranked_rows::{NameRanks, RankedRows, Sorting};
+use ranked_rows::{GatheredRows, NameRanks, RankedRows, Sorting};
 use sample_tables::RowTable;
 use stack_core::SourceList;
 use std::alloc::{AllocError, Global};
@@ -209,6 +209,22 @@ impl StackRows for MergedStacks {
     }
 }
 
+/// No rows, and room to remember those of some lists. A list by itself keeps each stack once.
+fn rows_for(alloc: Global, lists: &[SourceList]) -> Result<GatheredRows, AllocError>
+    ensures { IfOk result (λ rows. rows ≡ []) }
+{
+    let mut most = 0usize;
+    for list in lists {
+        most = most.max(list.stack_count());
+    }
+    let room = if lists.len() > 1 {
+        most.saturating_mul(2)
+    } else {
+        0
+    };
+    GatheredRows::with_room(alloc, room)
+}
+
 /// The samples of all lists, by the ranks of their names.
 fn ranked(alloc: Global, lists: &[SourceList], ranks: &[u32]) -> Result<RankedRows, AllocError>
     requires ranks { length ranks.now ≡ length (all_told lists.now) }
@@ -216,14 +232,14 @@ fn ranked(alloc: Global, lists: &[SourceList], ranks: &[u32]) -> Result<RankedRo
     ensures { IfOk result (λ rows. (names : List (List ℕ)) → IsNamedBy names ranks.now (all_told lists.now)
         → HasSums names (all_samples (samples_of lists.now)) rows) }
 {
-    let mut rows = RankedRows::new(alloc);
+    let mut rows = rows_for(alloc, lists)?;
     let mut rest = ranks;
     for list in lists {
         let (own, others) = rest.split_at(list.told());
         add_list(alloc, &mut rows, list, own)?;
         rest = others;
     }
-    Ok(rows)
+    Ok(rows.into_rows())
 }
 
 /// The same of lists that are given up one after another.
@@ -237,13 +253,13 @@ fn ranked_out(
     ensures { IfOk result (λ rows. (names : List (List ℕ)) → IsNamedBy names ranks.items (all_told lists.items)
         → HasSums names (all_samples (samples_of lists.items)) rows) }
 {
-    let mut rows = RankedRows::new(alloc);
+    let mut rows = rows_for(alloc, &lists)?;
     let mut rest = ranks.as_slice();
     'each: while !lists.is_empty() {
         let list = lists.remove(0);
         let (own, others) = rest.split_at(list.told());
-        rows = with_list(alloc, rows, list, own)?;
+        give_list(alloc, &mut rows, list, own)?;
         rest = others;
     }
-    Ok(rows)
+    Ok(rows.into_rows())
 }

@@ -11,7 +11,7 @@ ghost use Rattle.merged_stacks.specs.checked.Swept.{HasStacks};
 
 use crate::list_sums::add_list;
 use crate::sweeps::{Place, place_ranks, sweep, weight_after, weight_before};
-use ranked_rows::{NameRanks, RankedRows, Sorting};
+use ranked_rows::{GatheredRows, NameRanks, RankedRows, Sorting};
 use stack_core::SourceList;
 use std::alloc::{AllocError, Global};
 use std::marker::Model;
@@ -137,7 +137,7 @@ fn merged_rows<S: Sorting>(
     ensures { IfOk result (λ rows. (names : List (List ℕ)) → AreRising names
         → IsNamedBy names ranks.now list.now.told → HasStacks names list.now.samples rows) }
 {
-    let mut rows = RankedRows::new(alloc);
+    let mut rows = GatheredRows::with_room(alloc, 0)?;
     add_list(alloc, &mut rows, list, ranks)?;
-    rows.merged(alloc, sorting)
+    rows.into_rows().merged(alloc, sorting)
 }

@@ -1,5 +1,5 @@
 -- Rows of ranks: as they are taken, sorted and joined.
-use Rattle.std.proofs.Common.{◌≡◌, ℕ, ◌+◌, ◌-◌, ◌<◌, ◌≤◌, List, [], ◌∷◌, ◌++◌, Bool, true, false, cond, nat_eq, length, get_or, map, drop, reverse, sum_by, refl, sym, ap, subst, ◌∙◌, arith, length-append, length-drop, is_lt, suc, add-one}
+use Rattle.std.proofs.Common.{◌≡◌, ℕ, ◌+◌, ◌-◌, ◌<◌, ◌≤◌, List, [], ◌∷◌, ◌++◌, Bool, true, false, cond, nat_eq, length, get_or, set, map, zero, drop, reverse, sum_by, refl, sym, ap, subst, ◌∙◌, arith, length-append, length-drop, is_lt, suc, add-one}
 use Rattle.std.specs.Prelude.{Some}
 use Rattle.std.specs.List.{slice_range}
 use Rattle.std.specs.Ordering.{nat_cmp, ordering_then}
@@ -13,6 +13,7 @@ use Rattle.std.proofs.lemmas.List.Sorted.{IsPermutation-reverse, sum_by-IsPermut
 use Rattle.std.proofs.lemmas.Grind.{common_steps}
 use Rattle.std.proofs.Math.Seq.{drop-append_seam}
 use Rattle.ranked_rows.specs.declared.rows.RankedRow.{RankedRow}
+use Rattle.ranked_rows.specs.Gathering.{with_more}
 use Rattle.ranked_rows.specs.Joined.{Ranked, join_front, joined, AreAscending}
 use Rattle.ranked_rows.specs.checked.Entries.{ranked_row, ranked_rows, AreWithin, Entry, ranked_entry}
 
@@ -154,3 +155,13 @@ entries_ascend (e ∷ f ∷ entries) up = (
   first_not_less (slice_cmp nat_cmp f.0.now e.0.now) (nat_cmp f.1 e.1) (nat_cmp f.2 e.2) (up 0 e (omega arith) (omega arith)),
   entries_ascend (f ∷ entries) (λ k d l lt. rw (add-one k) (let h = up (suc k) d (omega arith) (omega arith) in rw (add-one (suc k)) at h)),
 )
+
+-- ---- a row that weighs more
+
+pub more_at : (frames : List ℕ) (rows : List RankedRow) (at : ℕ) (row : RankedRow) (more sum : ℕ) → at < length rows → row ≡ get_or rows at row → sum ≡ row.weight + more
+    → ranked_rows frames (set rows at (record { start = row.start; end = row.end; weight = sum })) ≡ with_more (ranked_rows frames rows) at more
+more_at frames [] at row more sum lt is e = absurd (omega (arith, lt))
+more_at frames (first ∷ rows) zero row more sum lt is e =
+    let rest = ranked_rows frames rows in
+    ap (λ w. (slice_range frames row.start row.end, w) ∷ rest) e ∙ ap (λ (row : RankedRow). (slice_range frames row.start row.end, row.weight + more) ∷ rest) is
+more_at frames (first ∷ rows) (suc at) row more sum lt is e = ap (λ rest. ranked_row frames first ∷ rest) (more_at frames rows at row more sum (omega (arith, lt)) is e)

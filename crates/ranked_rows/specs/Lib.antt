@@ -1,3 +1,4 @@
+pub mod Gathering
 pub mod Joined
 pub mod Keys
 pub mod Ranks

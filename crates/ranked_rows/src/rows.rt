@@ -1,7 +1,8 @@
 //! Stacks by the ranks of their names, sorted and joined.
 
-ghost use Rattle.std.specs.Prelude.{◌≡◌, ◌+◌, ◌-◌, ◌<◌, ◌≤◌, ◌^◌, ◌++◌, ◌∷◌, ℕ, [], List, All, IfOk, OnOk, IsPermutation, length, map, nat_eq, reverse, sum_by, slice_index, slice_index_or, slice_range};
+ghost use Rattle.std.specs.Prelude.{if◌then◌else◌, ◌≡◌, ◌+◌, ◌-◌, ◌<◌, ◌≤◌, ◌^◌, ◌++◌, ◌∷◌, ℕ, [], List, All, IfOk, OnOk, IsPermutation, length, map, nat_eq, reverse, sum_by, slice_index, slice_index_or, slice_range};
 ghost use Rattle.std.specs.Cmp.Lexicographic.{pointwise};
+ghost use Rattle.ranked_rows.specs.Gathering.{with_more};
 ghost use Rattle.ranked_rows.specs.Joined.{Ranked, join_front, joined, AreAscending};
 ghost use Rattle.ranked_rows.specs.Weighing.{weighing};
 ghost use Rattle.ranked_rows.specs.checked.Entries.{ranked_row, ranked_rows, weighing_rows, AreWithin, ranked_entry, IsEntryOf};
@@ -83,6 +84,19 @@ impl RankedRows {
         let end = self.frames.len();
         self.rows.push(RankedRow { start, end, weight })?;
         Ok(())
+    }
+
+    /// Adds a weight to that of a row, if 64 bits hold the sum.
+    pub(crate) fn add_to(&mut self, at: usize, weight: u64) -> bool
+        requires { at < length self.old }
+        ensures { self.new ≡ if result then with_more self.old at weight else self.old }
+    {
+        let row = &mut self.rows[at];
+        let Some(sum) = row.weight.checked_add(weight) else {
+            return false;
+        };
+        row.weight = sum;
+        true
     }
 
     /// How many rows there are.
@@ -171,7 +185,11 @@ fn push_weighing(rows: &mut Vec<RankedRow>, span: Span, weight: u64) -> Result<(
 }
 
 /// Appends the ranks of the numbers.
-fn append_ranks(frames: &mut Vec<u32>, numbers: &[u32], ranks: &[u32]) -> Result<(), AllocError>
+pub(crate) fn append_ranks(
+    frames: &mut Vec<u32>,
+    numbers: &[u32],
+    ranks: &[u32],
+) -> Result<(), AllocError>
     requires { All (λ number. number < length ranks.now) numbers.now }
     ensures ok { OnOk result (frames.new.items ≡ frames.old.items ++ map (slice_index ranks.now) numbers.now) }
     ensures grows { (more : List ℕ) × (frames.new.items ≡ frames.old.items ++ more) }

@@ -2,7 +2,7 @@
 ghost use Rattle.std.specs.Prelude.{◌≡◌, [], OnOk, sum_by};
 
 use super::holds;
-use ranked_rows::{Alone, RankedRows};
+use ranked_rows::{Alone, GatheredRows, RankedRows};
 use sample_tables::{FlatStacks, Span};
 use std::alloc::{AllocError, Global};
 use std::test::Fail;
@@ -74,4 +74,61 @@ fn ranks_in_place(alloc: Global) -> Result<bool, AllocError> {
 #[test]
 fn stacks_are_ranked_in_place(rt: HostRuntime) -> Result<(), Fail> {
     holds(&rt, ranks_in_place(rt.alloc()))
+}
+
+/// The rows after five came, two of them again, where there is room to remember so many.
+fn gathered(alloc: Global, room: usize) -> Result<RankedRows, AllocError> {
+    let ranks = [2, 0, 1];
+    let mut first = RankedRows::new(alloc);
+    first.push([1, 0].as_slice(), ranks.as_slice(), 5)?;
+    let mut rows = GatheredRows::with_room(alloc, room)?;
+    rows.begin(first);
+    rows.add([2].as_slice(), ranks.as_slice(), 1)?;
+    rows.add([1, 0].as_slice(), ranks.as_slice(), 2)?;
+    rows.add([0, 1].as_slice(), ranks.as_slice(), 4)?;
+    rows.add([2].as_slice(), ranks.as_slice(), 8)?;
+    Ok(rows.into_rows())
+}
+
+fn gathers_what_comes_again(alloc: Global) -> Result<bool, AllocError> {
+    let rows = gathered(alloc, 8)?;
+    Ok(
+        rows.len() == 3
+            && rows.ranks(0) == [0, 2].as_slice()
+            && rows.weight(0) == 7
+            && rows.ranks(1) == [1].as_slice()
+            && rows.weight(1) == 9
+            && rows.ranks(2) == [2, 0].as_slice()
+            && rows.weight(2) == 4,
+    )
+}
+
+#[test]
+fn row_that_comes_again_is_added(rt: HostRuntime) -> Result<(), Fail> {
+    holds(&rt, gathers_what_comes_again(rt.alloc()))
+}
+
+fn gathers_each_apart(alloc: Global) -> Result<bool, AllocError> {
+    let rows = gathered(alloc, 0)?;
+    Ok(rows.len() == 5 && rows.weight(0) == 5 && rows.weight(4) == 8)
+}
+
+#[test]
+fn row_stands_apart_where_none_is_remembered(rt: HostRuntime) -> Result<(), Fail> {
+    holds(&rt, gathers_each_apart(rt.alloc()))
+}
+
+/// Two rows of the same ranks whose weights together have more than 64 bits.
+fn keeps_great_weights_apart(alloc: Global) -> Result<bool, AllocError> {
+    let ranks = [0];
+    let mut rows = GatheredRows::with_room(alloc, 8)?;
+    rows.add([0].as_slice(), ranks.as_slice(), u64::MAX)?;
+    rows.add([0].as_slice(), ranks.as_slice(), 1)?;
+    let rows = rows.into_rows();
+    Ok(rows.len() == 2 && rows.weight(0) == u64::MAX && rows.weight(1) == 1)
+}
+
+#[test]
+fn row_past_64_bits_stands_apart(rt: HostRuntime) -> Result<(), Fail> {
+    holds(&rt, keeps_great_weights_apart(rt.alloc()))
 }

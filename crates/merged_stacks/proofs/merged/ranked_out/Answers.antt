@@ -31,7 +31,7 @@ each-preserved c =
           let before = c.each.invariant.sums names by in (
             before.0 ++ list.samples,
             append_assoc before.0 list.samples (all_samples (samples_of left)) ∙ ap (λ (all : List ListState). before.0 ++ all_samples (samples_of all)) (sym out) ∙ before.1,
-            c.in_ok-rows.ensures names before.0
+            c.in_ok-give_list.ensures names before.0
                 (subst (λ numbers. IsNamedBy names numbers list.told) (sym own)
                 (named_front names ranks list.told (all_told left) (subst (λ (all : List ListState). IsNamedBy names ranks (all_told all)) out (c.each.invariant.named names by))))
                 before.2,
@@ -43,7 +43,7 @@ each-init c = record {
   long = ap length c.as_slice-rest.ensures.value ∙ c.requires.ranks;
   total = c.requires.total;
   named = λ names by. subst (λ numbers. IsNamedBy names numbers (all_told c.args.lists.items)) (sym c.as_slice-rest.ensures.value) by;
-  sums = λ names by. ([], refl, subst (HasSums names []) (sym c.new-rows.ensures) (no_sums names));
+  sums = λ names by. ([], refl, subst (HasSums names []) (sym c.in_ok-rows.ensures) (no_sums names));
 }
 
 pub split_at-requires : goal.split_at-requires
@@ -53,8 +53,8 @@ split_at-requires c =
     let out = taken_out c.each.lists.items left list c.remove-list.ensures.value c.remove-list.ensures.by_index.2 (omega arith) in
     omega (arith, c.told.ensures, c.each.invariant.long, ap (λ (all : List ListState). length (all_told all)) out, length-append list.told (all_told left))
 
-pub with_list-requires-clause-total : goal.with_list-requires-clause-total
-with_list-requires-clause-total c =
+pub give_list-requires-clause-total : goal.give_list-requires-clause-total
+give_list-requires-clause-total c =
     let list = c.remove-list.result in
     let left = c.remove-list.new.self.items in
     let out = taken_out c.each.lists.items left list c.remove-list.ensures.value c.remove-list.ensures.by_index.2 (omega arith) in
@@ -64,4 +64,5 @@ pub returns : goal.returns
 returns c names by =
     let done = c.each.invariant.sums names by in
     let none : c.each.lists.items ≡ [] = none_left c.each.lists.items (omega (arith, eqb-true _ _ (sym c.each-test.ensures), c.each.lists.ok.0)) in
-    subst (λ samples. HasSums names samples c.each.rows) (sym (append-nil done.0) ∙ ap (λ (all : List ListState). done.0 ++ all_samples (samples_of all)) (sym none) ∙ done.1) done.2
+    subst (HasSums names (all_samples (samples_of c.args.lists.items))) (sym c.into_rows.ensures)
+    (subst (λ samples. HasSums names samples c.each.rows) (sym (append-nil done.0) ∙ ap (λ (all : List ListState). done.0 ++ all_samples (samples_of all)) (sym none) ∙ done.1) done.2)
