@@ -3,7 +3,7 @@ use Rattle.std.proofs.Common.{All, ◌≡◌, Bool, true, ℕ, zero, suc, ◌<�
 use Rattle.std.proofs.lemmas.List.{length-map}
 use Rattle.std.proofs.lemmas.Option.{slice_get_within, get_or_from_slice_get, same_Some}
 use Rattle.std.proofs.lemmas.Result.{IfOk-weaker}
-use Rattle.std.specs.Result.{IsErrAnd, IsErrOf}
+use Rattle.std.specs.Result.{IfOk, IsErrAnd, IsErrOf}
 use Rattle.stack_core.specs.Reading.{Rest}
 use Rattle.stack_core.specs.Ledgers.{LedgerState, ListState}
 use Rattle.stack_core.specs.Told.{IsCollected, told}
@@ -16,7 +16,7 @@ use Rattle.call_tree.specs.FrameTable.{HasDistinctNames}
 use Rattle.ring_collect.specs.NamesInOrder.{names_in_order}
 use Rattle.ring_collect.specs.checked.Settlement.{IsAllTold, AreListsOf}
 use Rattle.ring_collect.specs.checked.WholeRuns.{HandsOut, RunsWhole}
-use Rattle.ring_collect.specs.Collection.{Answers, Collects, CollectsRun, AreWhole, GainsAllowed, GainsFirst, seen_as_rest}
+use Rattle.ring_collect.specs.Collection.{Answers, Collects, CollectsRun, AreWhole, GainsAllowed, GainsFirst, GiveSuch, seen_as_rest}
 use Rattle.ring_collect.specs.declared.faults.CollectFault.{CollectFault}
 use Rattle.ring_collect.specs.declared.faults.CollectFault.TheVariants.{OutOfMemory, NoThread, Unfinished}
 use Rattle.ring_collect.proofs.Outcomes.{error_said}
@@ -185,6 +185,16 @@ hands_out {ledgers = ledgers} {order = order} {lists = lists} runs are first all
         let listed = runs.all_listed in
         let lengths = sym (length-map lists (λ list. list.told)) ∙ ap length are.names ∙ length-map ledgers (λ ledger. ledger.told) in
         past_the_end runs.lists source (omega arith)
+
+-- where no source is unfinished, a run answers so for the rests that were given, and of which the sink gained the first samples
+pub answers_so : {R Run : Type 0} {gives : R → Rest → Type 0} {readers : List R} {Gains : List Rest → Type 0} {Holds : List Rest → Run → Type 0} {may_go : ℕ → ℕ → Type 0} {taken taken' : List (ℕ × Sample)} {answer : Result Run CollectFault}
+    (given : GiveSuch gives readers Gains) → GainsFirst given.rests taken taken' → GainsAllowed may_go taken taken' → IfOk answer (Holds given.rests) → ((source : ℕ) → IsErrOf answer (Unfinished source) → ⊥)
+    → GiveSuch gives readers (λ rests. Answers (Holds rests) may_go rests taken taken' answer)
+answers_so given first allowed holds finished = record {
+  rests = given.rests;
+  are_given = given.are_given;
+  holds = record { run = holds; refused = λ _. first; popped = λ _. allowed; unfinished = λ source fault. absurd (finished source fault) };
+}
 
 -- what holds of an answer on Ok may be less
 pub answers_less : {Run : Type 0} {Holds Holds' : Run → Type 0} {may_go : ℕ → ℕ → Type 0} {rests : List Rest} {taken taken' : List (ℕ × Sample)} {answer : Result Run CollectFault} → ((run : Run) → Holds run → Holds' run)

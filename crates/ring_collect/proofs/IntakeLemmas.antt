@@ -231,6 +231,22 @@ takes_close (RecordTaken is named ledger_is close_is gains ordered) = close_is
 takes_close (RecordRefused is close_is gains) = close_is
 takes_close (RecordUnnamed is unnamed close_is taken_is order_is) = close_is
 
+-- what comes to a source that is open where records are taken
+pub brings_taken : {one one' : RingRecord} {ledger' : LedgerState} {close' : Option Close} {stage' : Stage} {taken taken' : List (ℕ × Sample)} {order order' : List ℕ} (old : Intake) → one ≡ one' → old.close ≡ None → old.stage ≡ Taking
+    → TakesRecord old.origin one old.ledger ledger' old.close close' taken taken' order order' stage' → (before : List RingRecord) (list : List Sample) → Tracked old.origin.keeps before None old.ledger old.stage list
+    → GainsMore old.origin (Tracked old.origin.keeps (before ++ one' ∷ []) close' ledger' stage') list taken taken' order order' (stage' ≢ stage.Dropping)
+brings_taken {one} {ledger' = ledger'} {close'} {stage'} {taken} {taken'} {order} {order'} old same unclosed taking takes before list tracked =
+    takes_more (subst (λ stage. Tracked old.origin.keeps before None old.ledger stage list) taking tracked)
+    (subst (λ one. TakesRecord old.origin one old.ledger ledger' None close' taken taken' order order' stage') same
+    (subst (λ close. TakesRecord old.origin one old.ledger ledger' close close' taken taken' order order' stage') unclosed takes))
+
+-- and where they are dropped
+pub brings_dropped : {close' : Option Close} {taken : List (ℕ × Sample)} {order : List ℕ} (old : Intake) (one : RingRecord) → old.stage ≢ Taking → close' ≡ close_after None one
+    → (before : List RingRecord) (list : List Sample) → Tracked old.origin.keeps before None old.ledger old.stage list
+    → GainsMore old.origin (Tracked old.origin.keeps (before ++ one ∷ []) close' old.ledger old.stage) list taken taken order order (old.stage ≢ stage.Dropping)
+brings_dropped {close'} old one other closes before list tracked =
+    nothing_more {tracks = Tracked old.origin.keeps (before ++ one ∷ []) close' old.ledger old.stage} (along_close closes (tracked_dropped one other (λ e. e) tracked))
+
 -- the sink has some samples more, and then some more
 pub gains_on : {origin : Origin} {tracks tracks' : List Sample → Type 0} {list : List Sample} {taken taken' taken'' : List (ℕ × Sample)} {order order' order'' : List ℕ} {well well' : Type 0}
     (first : GainsMore origin tracks list taken taken' order order' well) → (well' → well) → GainsMore origin tracks' (list ++ first.more) taken' taken'' order' order'' well'

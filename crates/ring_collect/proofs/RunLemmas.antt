@@ -405,13 +405,6 @@ gains_nothing rests taken = record {
   first = λ source rest is. (rest.samples, refl);
 }
 
-pub gains_none_allowed : (may_go : ℕ → ℕ → Type 0) (taken : List (ℕ × Sample)) → GainsAllowed may_go taken taken
-gains_none_allowed may_go taken = record {
-  pairs = [];
-  gained = sym (append-nil taken);
-  goes = λ source i below. absurd (omega arith);
-}
-
 -- the gate is asked of nothing that the sink did not gain
 pub allows_nothing : (may_go : ℕ → ℕ → Type 0) (taken : List (ℕ × Sample)) → GainsAllowed may_go taken taken
 allows_nothing may_go taken = record { pairs = []; gained = sym (append-nil taken); goes = λ source i below. absurd (omega arith) }

@@ -1,5 +1,5 @@
 -- Sources that are started one after another.
-use Rattle.std.proofs.Common.{All, ◌≡◌, ℕ, ◌+◌, ◌<◌, ◌⊎◌, inl, inr, List, [], ◌∷◌, ◌++◌, length, get_or, sym, ap, subst, ◌∙◌, Bool, arith, length-append, Some, slice_get}
+use Rattle.std.proofs.Common.{All, ◌≡◌, ℕ, ◌+◌, ◌<◌, ◌⊎◌, inl, inr, List, [], ◌∷◌, ◌++◌, length, get_or, refl, sym, ap, subst, ◌∙◌, Bool, arith, append-nil, length-append, Some, slice_get}
 use Rattle.std.proofs.lemmas.List.{get_or_append_left}
 use Rattle.std.proofs.Math.Seq.{get_or-append_seam}
 use Rattle.std.specs.Iterator.{Yields}
@@ -70,6 +70,15 @@ fresh_push {keeps} {intakes} intake fresh one = record { each = λ source i is. 
 pub taken_front : {X A : Type 0} (s : IntoIter X A) (xs : List X) (t : IntoIter X A) → Yields into_iter_steps s xs t → into_iter_items s ≡ xs ++ into_iter_items t
 taken_front s [] t y = ap into_iter_items y
 taken_front s (x ∷ xs) t y = y.1.0 ∙ ap (λ ys. x ∷ ys) (taken_front y.0 xs t y.2)
+
+no_items : {A : Type 0} (xs : List A) → length xs ≡ 0 → xs ≡ []
+no_items [] e = refl
+no_items (x ∷ xs) e = absurd (omega (arith, e))
+
+-- where none is left, they are all
+pub taken_all : {X A : Type 0} {all : List X} (s : IntoIter X A) (xs : List X) (t : IntoIter X A) → into_iter_items s ≡ all → Yields into_iter_steps s xs t
+    → length (into_iter_items t) ≡ 0 → all ≡ xs
+taken_all s xs t gives yields none = sym gives ∙ taken_front s xs t yields ∙ ap (λ rest. xs ++ rest) (no_items (into_iter_items t) none) ∙ append-nil xs
 
 -- while it gives one more, it has not given all
 module _ {X A : Type 0} (s : IntoIter X A) (xs : List X) (t : IntoIter X A) (yields : Yields into_iter_steps s xs t) (x : X) (rest : List X) (next : into_iter_items t ≡ x ∷ rest) where

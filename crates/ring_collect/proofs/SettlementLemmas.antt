@@ -199,10 +199,6 @@ first_below unfinished None first below at = tt
 first_below {n} unfinished (Some first) (inl was) below at = let lt = subst (λ u. IfSome u (λ k. k < n)) was below in omega arith
 first_below {n} unfinished (Some first) (inr is) below at = omega arith
 
-pub no_items : {A : Type 0} (xs : List A) → length xs ≡ 0 → xs ≡ []
-no_items [] e = refl
-no_items (x ∷ xs) e = absurd (omega (arith, e))
-
 -- a list more, that the next ledger hands out
 pub one_more_list : {ledgers : List LedgerState} {lists : List ListState} → AreListsOf ledgers lists → (ledger : LedgerState) (list : ListState) → list.samples ≡ ledger.samples → ledger.close ≡ Some (close.Read list.ending) → list.told ≡ ledger.told
     → AreListsOf (ledgers ++ ledger ∷ []) (lists ++ list ∷ [])

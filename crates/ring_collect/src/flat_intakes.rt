@@ -6,39 +6,12 @@ use crate::intakes::Intake;
 use stack_core::RingRecord;
 
 impl Intake {
-    ghost use Rattle.std.specs.Prelude.{◌≡◌, ◌≤◌, ◌∷◌, [], All, None, length};
+    ghost use Rattle.std.specs.Prelude.{◌≡◌, ◌∷◌, [], All, None};
     ghost use Rattle.std.specs.Vec.Iter.{into_iter_items};
     ghost use Rattle.ring_collect.specs.checked.FlatRecords.{HasItsParts, frames_behind, names_behind, record_by};
     ghost use Rattle.ring_collect.specs.checked.Intakes.{Brings};
     ghost use Rattle.ring_collect.specs.checked.Rings.{IsGathered};
     ghost use Rattle.ring_collect.specs.declared.intakes.Stage.TheVariants as Stage;
-    ghost use Rattle.sample_tables.specs.declared.samples.TheConstants.{FRAME_LIMIT, WEIGHT_LIMIT};
-
-    /// Takes a row that came out of the ring, or drops it where none is taken any more.
-    fn take_or_drop_row<S, F: Feed<S>>(
-        &mut self,
-        frames: &[usize],
-        weight: u64,
-        feed: &mut F,
-        sink: &mut S,
-        order: &mut Vec<u32>,
-    )
-        requires unclosed { self.old.close ≡ None }
-        requires depth { length frames.now ≤ FRAME_LIMIT }
-        requires limit { weight ≤ WEIGHT_LIMIT }
-        ensures origin { self.new.origin ≡ self.old.origin }
-        ensures consumer { self.new.consumer ≡ self.old.consumer }
-        ensures unclosed { self.new.close ≡ None }
-        ensures dropping { self.old.stage ≡ Stage.Dropping → self.new.stage ≡ Stage.Dropping }
-        ensures brings { Brings (RingRecord.Row frames.now weight ∷ []) self.old self.new
-            (F.taken sink.old) (F.taken sink.new) order.old.items order.new.items }
-        ensures setting { F.setting sink.new ≡ F.setting sink.old }
-    {
-        if !self.stage.is_taking() {
-            return;
-        }
-        self.stage = self.take_row(frames, weight, feed, sink, order);
-    }
 
     /// Takes or drops the record that a step tells.
     fn take_step<S, F: Feed<S>>(
@@ -73,7 +46,9 @@ impl Intake {
             }
             Step::Row { depth, weight } => {
                 let frames = unread.next_frames(depth);
-                self.take_or_drop_row(frames, weight, feed, sink, order);
+                if self.stage.is_taking() {
+                    self.stage = self.take_row(frames, weight, feed, sink, order);
+                }
             }
             Step::Again { row, weight } => {
                 let row = row as usize;

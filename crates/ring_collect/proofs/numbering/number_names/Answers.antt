@@ -1,8 +1,8 @@
-use Rattle.std.proofs.Common.{◌∙◌, ◌<◌, ◌++◌, ◌∷◌, [], All, Some, ap, append-nil, sym, subst, map, take, length, string_bytes}
+use Rattle.std.proofs.Common.{rules, ◌∙◌, ◌<◌, ◌++◌, ◌∷◌, [], All, Some, ap, append-nil, sym, subst, map, take, length, string_bytes}
 use Rattle.std.proofs.lemmas.List.{length-map, map_more, take_all}
 use Rattle.stack_core.specs.NamesInOrder.{with_name}
 use Rattle.stack_core.specs.Records.{names_at}
-use Rattle.ring_collect.specs.NamesInOrder.{with_stack}
+use Rattle.ring_collect.specs.NamesInOrder.{GrowsTo, with_stack}
 use Rattle.ring_collect.proofs.NameOrder.{with_stack_push}
 use Rattle.ring_collect.proofs.Records.{grown_further, names_at_push, known_push}
 use Rattle.std.proofs.lemmas.Result.{IfOk-from_err}
@@ -43,31 +43,16 @@ returns c =
     }
 
 pub returns-in_err-numbers : goal.returns-in_err-numbers
-returns-in_err-numbers c = record {
-  told = IfOk-from_err _ _ c.from_residual.ensures.0;
-  asked = IfOk-from_err _ _ c.from_residual.ensures.0;
-  grown = ([], sym (append-nil _));
-  numbers = IfOk-from_err _ _ c.from_residual.ensures.0;
-  known = IfOk-from_err _ _ c.from_residual.ensures.0;
-  count = IfOk-from_err _ _ c.from_residual.ensures.0;
-}
+returns-in_err-numbers c =
+    let grown : GrowsTo c.args.table.now c.args.table.now = ([], sym (append-nil _)) in
+    search (rules, IfOk-from_err, grown)
 
 pub returns-in_err-number_name : goal.returns-in_err-number_name
-returns-in_err-number_name c = record {
-  told = IfOk-from_err _ _ c.from_residual-in_err-number_name.ensures.0;
-  asked = IfOk-from_err _ _ c.from_residual-in_err-number_name.ensures.0;
-  grown = grown_further c.args.table.now c.loop-name.new.items c.loop-name.invariant.told c.number_name.ensures.grown;
-  numbers = IfOk-from_err _ _ c.from_residual-in_err-number_name.ensures.0;
-  known = IfOk-from_err _ _ c.from_residual-in_err-number_name.ensures.0;
-  count = IfOk-from_err _ _ c.from_residual-in_err-number_name.ensures.0;
-}
+returns-in_err-number_name c =
+    let grown = grown_further c.args.table.now c.loop-name.new.items c.loop-name.invariant.told c.number_name.ensures.grown in
+    search (rules, IfOk-from_err, grown)
 
 pub returns-in_err-push : goal.returns-in_err-push
-returns-in_err-push c = record {
-  told = IfOk-from_err _ _ c.from_residual-in_err-push.ensures.0;
-  asked = IfOk-from_err _ _ c.from_residual-in_err-push.ensures.0;
-  grown = grown_further c.args.table.now c.loop-name.new.items c.loop-name.invariant.told c.number_name.ensures.grown;
-  numbers = IfOk-from_err _ _ c.from_residual-in_err-push.ensures.0;
-  known = IfOk-from_err _ _ c.from_residual-in_err-push.ensures.0;
-  count = IfOk-from_err _ _ c.from_residual-in_err-push.ensures.0;
-}
+returns-in_err-push c =
+    let grown = grown_further c.args.table.now c.loop-name.new.items c.loop-name.invariant.told c.number_name.ensures.grown in
+    search (rules, IfOk-from_err, grown)

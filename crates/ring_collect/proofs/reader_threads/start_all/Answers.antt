@@ -1,4 +1,4 @@
-use Rattle.std.proofs.Common.{◌≡◌, ◌+◌, ◌∙◌, ◌++◌, ◌∷◌, [], Err, sym, ap, subst, rules, map, length, arith, length-append, append-nil}
+use Rattle.std.proofs.Common.{◌≡◌, ◌+◌, ◌∙◌, ◌++◌, ◌∷◌, [], Err, sym, ap, subst, rules, map, length, arith, length-append}
 use Rattle.std.proofs.lemmas.List.{map-append, length-map}
 use Rattle.std.proofs.lemmas.Result.{IfOk-from_err}
 use Rattle.std.specs.Arc.{arc_value}
@@ -6,8 +6,7 @@ use Rattle.std.specs.Vec.Iter.{into_iter_items}
 use Rattle.ring_collect.specs.checked.RunningSources.{ArePromised, AreFresh, IsFresh, IsPromised}
 use Rattle.ring_collect.specs.declared.faults.CollectFault.TheVariants.{Unfinished}
 use Rattle.ring_collect.proofs.Outcomes.{error_said}
-use Rattle.ring_collect.proofs.RunningSourceLemmas.{promised_of_more, promised_push, fresh_push, taken_front}
-use Rattle.ring_collect.proofs.SettlementLemmas.{no_items}
+use Rattle.ring_collect.proofs.RunningSourceLemmas.{promised_of_more, promised_push, fresh_push, taken_all, taken_front}
 use Rattle.ring_collect.proofs.reader_threads.start_all.Goals as goal
 
 pub returns-in_err-running : goal.returns-in_err-running
@@ -47,10 +46,8 @@ loop-reader-preserved g c =
 -- all readers were given
 whole : (g : _) (c : goal.After-drop-rings-2 g) → c.args.readers.items ≡ c.loop-reader.yielded
 whole g c =
-    let gives : into_iter_items c.into_iter-reader-iterator.result ≡ c.args.readers.items = c.into_iter-reader-iterator.ensures.into_iter_gives.0 in
-    let before = taken_front c.into_iter-reader-iterator.result c.loop-reader.yielded c.loop-reader.reader-iterator c.loop-reader.yielded_by in
-    let none : into_iter_items c.loop-reader.reader-iterator ≡ [] = no_items (into_iter_items c.loop-reader.reader-iterator) (let ok = c.loop-reader.reader-iterator.rest.ok.0 in let none = c.in-None.ensures.steps.0 in omega arith) in
-    sym gives ∙ before ∙ ap (λ rest. c.loop-reader.yielded ++ rest) none ∙ append-nil c.loop-reader.yielded
+    taken_all c.into_iter-reader-iterator.result c.loop-reader.yielded c.loop-reader.reader-iterator c.into_iter-reader-iterator.ensures.into_iter_gives.0
+    c.loop-reader.yielded_by (let ok = c.loop-reader.reader-iterator.rest.ok.0 in let none = c.in-None.ensures.steps.0 in omega arith)
 
 pub returns : goal.returns
 returns g c =

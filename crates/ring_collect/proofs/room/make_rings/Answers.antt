@@ -1,4 +1,4 @@
-use Rattle.std.proofs.Common.{◌∙◌, ◌+◌, ◌∷◌, [], All, ap, length, length-append, subst, sym}
+use Rattle.std.proofs.Common.{rules, ◌∙◌, ◌+◌, ◌∷◌, [], All, ap, length, length-append, subst, sym}
 use Rattle.std.proofs.lemmas.List.Elements.{All-push}
 use Rattle.std.proofs.lemmas.Result.{IfOk-from_err}
 use Rattle.ring_collect.specs.checked.RunningSources.{IsOfSize}
@@ -14,19 +14,10 @@ loop-preserved c =
     }
 
 pub returns-in_err-rings : goal.returns-in_err-rings
-returns-in_err-rings c = record {
-  count = IfOk-from_err _ _ c.from_residual.ensures.0;
-  size = IfOk-from_err _ _ c.from_residual.ensures.0;
-}
+returns-in_err-rings c = search (rules, IfOk-from_err)
 
 pub returns-in_err-make_ring : goal.returns-in_err-make_ring
-returns-in_err-make_ring c = record {
-  count = IfOk-from_err _ _ c.from_residual-in_err-make_ring.ensures.0;
-  size = IfOk-from_err _ _ c.from_residual-in_err-make_ring.ensures.0;
-}
+returns-in_err-make_ring c = search (rules, IfOk-from_err)
 
 pub returns-in_err-push : goal.returns-in_err-push
-returns-in_err-push c = record {
-  count = IfOk-from_err _ _ c.from_residual-in_err-push.ensures.0;
-  size = IfOk-from_err _ _ c.from_residual-in_err-push.ensures.0;
-}
+returns-in_err-push c = search (rules, IfOk-from_err)

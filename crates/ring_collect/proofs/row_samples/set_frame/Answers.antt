@@ -1,4 +1,4 @@
-use Rattle.std.proofs.Common.{◌≡◌, ◌∙◌, ◌+◌, ◌++◌, ◌∷◌, [], List, ℕ, ap, sym, subst, arith, length, map, take, string_bytes}
+use Rattle.std.proofs.Common.{rules, ◌≡◌, ◌∙◌, ◌+◌, ◌++◌, ◌∷◌, [], List, ℕ, ap, sym, subst, arith, length, map, take, string_bytes}
 use Rattle.std.proofs.Math.Seq.{take-append-add, take-length}
 use Rattle.std.proofs.lemmas.List.{length-map, map_push, map-set, take_more_set}
 use Rattle.std.proofs.lemmas.Result.{IfOk-from_err}
@@ -28,19 +28,10 @@ returns-then-at-len-clause-set c =
     ∙ ap (λ bytes. take at (map string_bytes names) ++ bytes ∷ []) (c.in_ok-from_str.ensures.ok ∙ c.told_name-told.ensures)
 
 pub returns-in_err-from_str : goal.returns-in_err-from_str
-returns-in_err-from_str c = record {
-  set = IfOk-from_err _ _ c.from_residual.ensures.0;
-  count = IfOk-from_err _ _ c.from_residual.ensures.0;
-}
+returns-in_err-from_str c = search (rules, IfOk-from_err)
 
 pub returns-in_err-push : goal.returns-in_err-push
-returns-in_err-push c = record {
-  set = IfOk-from_err _ _ c.from_residual-in_err-push.ensures.0;
-  count = IfOk-from_err _ _ c.from_residual-in_err-push.ensures.0;
-}
+returns-in_err-push c = search (rules, IfOk-from_err)
 
 pub returns-in_err-set_name : goal.returns-in_err-set_name
-returns-in_err-set_name c = record {
-  set = IfOk-from_err _ _ c.from_residual-in_err-set_name.ensures.0;
-  count = IfOk-from_err _ _ c.from_residual-in_err-set_name.ensures.0;
-}
+returns-in_err-set_name c = search (rules, IfOk-from_err)

@@ -1,9 +1,8 @@
-use Rattle.std.proofs.Common.{◌≡◌, ◌++◌, ◌∷◌, ◌∙◌, [], ap, sym, subst, arith, append-nil}
+use Rattle.std.proofs.Common.{◌≡◌, ◌++◌, ◌∷◌, [], sym, subst, arith}
 use Rattle.std.proofs.lemmas.Result.{IfOk-from_err}
-use Rattle.std.specs.Vec.Iter.{into_iter_items}
 use Rattle.ring_collect.specs.checked.Settlement.{AreListsOf}
-use Rattle.ring_collect.proofs.RunningSourceLemmas.{taken_front}
-use Rattle.ring_collect.proofs.SettlementLemmas.{no_items, one_more_list}
+use Rattle.ring_collect.proofs.RunningSourceLemmas.{taken_all}
+use Rattle.ring_collect.proofs.SettlementLemmas.{one_more_list}
 use Rattle.ring_collect.proofs.runs.lists_of.Goals as goal
 
 pub returns-in_err-lists : goal.returns-in_err-lists
@@ -24,7 +23,7 @@ loop-ledger-preserved c =
 
 pub returns : goal.returns
 returns c =
-    let gives : into_iter_items c.into_iter-ledger-iterator.result ≡ c.args.ledgers.items = c.into_iter-ledger-iterator.ensures.into_iter_gives.0 in
-    let before = taken_front c.into_iter-ledger-iterator.result c.loop-ledger.yielded c.loop-ledger.ledger-iterator c.loop-ledger.yielded_by in
-    let none : into_iter_items c.loop-ledger.ledger-iterator ≡ [] = no_items (into_iter_items c.loop-ledger.ledger-iterator) (let ok = c.loop-ledger.ledger-iterator.rest.ok.0 in let none = c.in-None.ensures.steps.0 in omega arith) in
-    subst (λ ledgers. AreListsOf ledgers c.loop-ledger.lists.items) (sym (sym gives ∙ before ∙ ap (λ rest. c.loop-ledger.yielded ++ rest) none ∙ append-nil c.loop-ledger.yielded)) c.loop-ledger.invariant
+    let whole : c.args.ledgers.items ≡ c.loop-ledger.yielded =
+    taken_all c.into_iter-ledger-iterator.result c.loop-ledger.yielded c.loop-ledger.ledger-iterator c.into_iter-ledger-iterator.ensures.into_iter_gives.0
+    c.loop-ledger.yielded_by (let ok = c.loop-ledger.ledger-iterator.rest.ok.0 in let none = c.in-None.ensures.steps.0 in omega arith) in
+    subst (λ ledgers. AreListsOf ledgers c.loop-ledger.lists.items) (sym whole) c.loop-ledger.invariant

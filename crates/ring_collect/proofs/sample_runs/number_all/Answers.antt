@@ -1,4 +1,4 @@
-use Rattle.std.proofs.Common.{All, ◌≡◌, ◌∙◌, ◌++◌, ◌∷◌, [], List, ℕ, ap, sym, subst, map}
+use Rattle.std.proofs.Common.{rules, All, ◌≡◌, ◌∙◌, ◌++◌, ◌∷◌, [], List, ℕ, ap, sym, subst, map}
 use Rattle.std.proofs.lemmas.List.{map_push}
 use Rattle.std.proofs.lemmas.List.Elements.{All-push}
 use Rattle.stack_core.specs.Reading.{Rest}
@@ -27,13 +27,7 @@ loop-reader-preserved g c =
     }
 
 pub returns-in_err-all : goal.returns-in_err-all
-returns-in_err-all g c = record {
-  rests = IfOk-from_err _ _ c.from_residual.ensures.0;
-  nothing_told = IfOk-from_err _ _ c.from_residual.ensures.0;
-}
+returns-in_err-all g c = search (rules, IfOk-from_err)
 
 pub returns-in_err-push : goal.returns-in_err-push
-returns-in_err-push g c = record {
-  rests = IfOk-from_err _ _ c.from_residual-in_err-push.ensures.0;
-  nothing_told = IfOk-from_err _ _ c.from_residual-in_err-push.ensures.0;
-}
+returns-in_err-push g c = search (rules, IfOk-from_err)

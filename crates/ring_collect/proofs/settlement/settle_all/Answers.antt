@@ -1,8 +1,8 @@
-use Rattle.std.proofs.Common.{◌≡◌, ◌+◌, ◌<◌, ◌∙◌, ◌++◌, ◌∷◌, [], length, map, sym, ap, subst, arith, length-append, IfNone, IfSome, IsSome, slice_get, append-nil}
+use Rattle.std.proofs.Common.{◌≡◌, ◌+◌, ◌<◌, ◌∙◌, ◌∷◌, [], length, map, sym, ap, subst, arith, length-append, IfNone, IfSome, IsSome, slice_get}
 use Rattle.std.specs.Vec.Iter.{into_iter_items}
 use Rattle.ring_collect.specs.checked.Settlement.{AreSettled}
-use Rattle.ring_collect.proofs.RunningSourceLemmas.{taken_fewer, taken_front, taken_next}
-use Rattle.ring_collect.proofs.SettlementLemmas.{more_closes, more_settled, first_below, no_items}
+use Rattle.ring_collect.proofs.RunningSourceLemmas.{taken_all, taken_fewer, taken_next}
+use Rattle.ring_collect.proofs.SettlementLemmas.{more_closes, more_settled, first_below}
 use Rattle.ring_collect.proofs.settlement.settle_all.Goals as goal
 
 pub settle-requires : goal.settle-requires
@@ -42,10 +42,8 @@ loop-running-preserved g c =
 -- all sources were given
 whole : (g : _) (c : goal.After-drop-running-iterator g) → c.args.sources.items ≡ c.loop-running.yielded
 whole g c =
-    let gives : into_iter_items c.into_iter-running-iterator.result ≡ c.args.sources.items = c.into_iter-running-iterator.ensures.into_iter_gives.0 in
-    let before = taken_front c.into_iter-running-iterator.result c.loop-running.yielded c.loop-running.running-iterator c.loop-running.yielded_by in
-    let none : into_iter_items c.loop-running.running-iterator ≡ [] = no_items (into_iter_items c.loop-running.running-iterator) (let ok = c.loop-running.running-iterator.rest.ok.0 in let none = c.in-None.ensures.steps.0 in omega arith) in
-    sym gives ∙ before ∙ ap (λ rest. c.loop-running.yielded ++ rest) none ∙ append-nil c.loop-running.yielded
+    taken_all c.into_iter-running-iterator.result c.loop-running.yielded c.loop-running.running-iterator c.into_iter-running-iterator.ensures.into_iter_gives.0
+    c.loop-running.yielded_by (let ok = c.loop-running.running-iterator.rest.ok.0 in let none = c.in-None.ensures.steps.0 in omega arith)
 
 pub returns-clause-settled : goal.returns-clause-settled
 returns-clause-settled g c =

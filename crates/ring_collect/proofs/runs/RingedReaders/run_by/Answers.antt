@@ -8,7 +8,7 @@ use Rattle.ring_collect.specs.declared.faults.CollectFault.TheVariants.{Unfinish
 use Rattle.ring_collect.proofs.Outcomes.{err_is, error_said}
 use Rattle.ring_collect.proofs.GivenRests.{any_given}
 use Rattle.ring_collect.proofs.RunLemmas.{allows_nothing, gains_nothing, hears_all, hears_no_first, hears_nothing, map_twice, one_unfinished, refused_nothing}
-use Rattle.ring_collect.proofs.CollectionLemmas.{hands_out}
+use Rattle.ring_collect.proofs.CollectionLemmas.{answers_so, hands_out}
 use Rattle.ring_collect.proofs.runs.RingedReaders.run_by.Goals as goal
 
 pub returns-in_err-room : goal.returns-in_err-room
@@ -57,16 +57,8 @@ pub returns-in_err-lists : goal.returns-in_err-lists
 returns-in_err-lists g c =
     let given = c.in_ok-run.ensures.gains in
     record {
-      answer = record {
-        rests = given.rests;
-        are_given = given.are_given;
-        holds = record {
-          run = IfOk-from_err _ _ c.from_residual-in_err-lists.ensures.0;
-          refused = λ _. given.holds.0;
-          popped = λ _. c.in_ok-run.ensures.popped;
-          unfinished = λ source fault. let other = error_said _ c.from_residual-in_err-lists.result (Unfinished source) c.from_residual-in_err-lists.ensures.1 fault in cc;
-        };
-      };
+      answer = answers_so given given.holds.0 c.in_ok-run.ensures.popped (IfOk-from_err _ _ c.from_residual-in_err-lists.ensures.0)
+          (λ source fault. let other = error_said _ c.from_residual-in_err-lists.result (Unfinished source) c.from_residual-in_err-lists.ensures.1 fault in cc);
       ends = λ few. record {
         all = IfOk-from_err _ _ c.from_residual-in_err-lists.ensures.0;
         some = c.run_sources.ensures.heard_some few;
@@ -79,16 +71,8 @@ pub returns-in-Some : goal.returns-in-Some
 returns-in-Some g c =
     let given = c.in_ok-run.ensures.gains in
     record {
-      answer = record {
-        rests = given.rests;
-        are_given = given.are_given;
-        holds = record {
-          run = tt;
-          refused = λ _. given.holds.0;
-          popped = λ _. c.in_ok-run.ensures.popped;
-          unfinished = λ source fault. let same : c.in-Some.fault ≡ Unfinished source = cc in absurd (c.in_ok-run.ensures.refused source (c.in-Some.is ∙ ap (λ fault. Some fault) same));
-        };
-      };
+      answer = answers_so given given.holds.0 c.in_ok-run.ensures.popped tt
+          (λ source fault. let same : c.in-Some.fault ≡ Unfinished source = cc in c.in_ok-run.ensures.refused source (c.in-Some.is ∙ ap (λ fault. Some fault) same));
       ends = λ few. record {
         all = tt;
         some = c.run_sources.ensures.heard_some few;
@@ -103,16 +87,8 @@ returns g c =
     let gate = arc_value c.args.self.gate in
     let runs = λ (keeps : Bool). RunsWhole keeps (g.G.Gate.may_stop gate) (g.G.Gate.may_go gate) given.rests c.in_ok-run.run'.ledgers.items c.in_ok-run.run'.order.items (g.F.Feed.taken c.args.sink.now) (g.F.Feed.taken c.run_sources.new.sink) in
     record {
-      answer = record {
-        rests = given.rests;
-        are_given = given.are_given;
-        holds = record {
-          run = hands_out (subst runs c.in_ok-room.ensures.keeps (given.holds.1 c.in-None.is)) c.in_ok-lists.ensures given.holds.0 c.in_ok-run.ensures.popped;
-          refused = λ _. given.holds.0;
-          popped = λ _. c.in_ok-run.ensures.popped;
-          unfinished = λ source fault. cc;
-        };
-      };
+      answer = answers_so given given.holds.0 c.in_ok-run.ensures.popped
+          (hands_out (subst runs c.in_ok-room.ensures.keeps (given.holds.1 c.in-None.is)) c.in_ok-lists.ensures given.holds.0 c.in_ok-run.ensures.popped) (λ source fault. cc);
       ends = λ few. record {
         all =
             let lists = c.in_ok-lists.ensures in
