@@ -1,12 +1,11 @@
 -- The lines of merged stacks, name by name and stack by stack.
 use Rattle.std.proofs.Common.{◌≡◌, ℕ, zero, suc, ◌+◌, ◌-◌, ◌<◌, ◌≤◌, List, [], ◌∷◌, ◌++◌, ltb, length, map, take, get_or, All, T, append_assoc, refl, sym, ap, ◌∙◌, arith}
 use Rattle.std.specs.List.{join_with_byte, AllByRecursion}
-use Rattle.std.proofs.lemmas.List.{take_more, length-take-le, take-map, take-take, take_at, length-append, length-map, get_or-map}
+use Rattle.std.proofs.lemmas.List.{take_more, length-take-le, take-map, length-append, length-map, get_or-map}
 use Rattle.std.proofs.lemmas.List.Elements.{recursion_from_All}
 use Rattle.std.proofs.lemmas.Bool.{lt-ltb}
 use Rattle.sample_tables.specs.declared.samples.Sample.{Sample}
 use Rattle.sample_tables.specs.Rows.{name_at}
-use Rattle.std.specs.Io.{StartsWith}
 use Rattle.folded_lines.specs.Writing.{column_of, line_of, pair_line_of}
 use Rattle.folded_lines.proofs.JoinLemmas.{join_with_byte-push}
 use Rattle.merged_stacks.specs.Timeline.{Stack}
@@ -26,12 +25,6 @@ joined_more stack i lt = ap (join_with_byte 59) (take_more stack i [] lt) ∙ by
     by [] (suc n) e = absurd (omega arith)
     by (x ∷ front) zero e = absurd (omega arith)
     by (x ∷ front) (suc n) e = join_with_byte-push 59 x front (get_or stack i []) ∙ ap (λ b. join_with_byte 59 (x ∷ front) ++ joint b (get_or stack i [])) (sym (lt-ltb 0 (suc n) (omega arith)))
-
--- what begins with a text and more begins with the text
-pub further : (new middle start text : List ℕ) → StartsWith new middle → middle ≡ start ++ text → StartsWith new start
-further new middle start text front is =
-    let long : length middle ≡ length start + length text = ap length is ∙ length-append start text in
-    sym (take-take (length start) (length middle) new (omega arith)) ∙ ap (take (length start)) (front ∙ is) ∙ take_at start text (length start) refl
 
 -- the name of a rank as it is joined
 abbrev pub joint_at : List (List ℕ) → List ℕ → ℕ → List ℕ

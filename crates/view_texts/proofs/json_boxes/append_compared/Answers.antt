@@ -9,5 +9,4 @@ unfolding serde_json_on_literals
 returns-clause-ok c = grind (arith, common_steps)
 
 pub returns-clause-front : goal.returns-clause-front
-returns-clause-front c =
-    further c.append_members.new.text.items c.append_number.new.out.items c.args.text.now.items _ c.append_members.ensures.front c.in_ok-append_number.ensures.ok
+returns-clause-front c = further _ _ _ _ c.append_members.ensures.front c.in_ok-append_number.ensures.ok

@@ -16,12 +16,7 @@ returns-clause-ok c =
 
 pub returns-clause-front : goal.returns-clause-front
 returns-clause-front c =
-    let new = c.append_ending.new.out.items in
-    let began = c.push.new.self.items in
-    further new began c.args.out.now.items (93 ∷ [])
-    (further new c.append_counts.new.out.items began (counts_of c.args.kind c.args.counts.now) c.append_ending.ensures.front c.in_ok-append_counts.ensures.ok)
-    c.in_ok-push.ensures.items
+    further _ _ _ _ (further _ _ _ _ c.append_ending.ensures.front c.in_ok-append_counts.ensures.ok) c.in_ok-push.ensures.items
 
 pub returns-in_err-append_counts-clause-front : goal.returns-in_err-append_counts-clause-front
-returns-in_err-append_counts-clause-front c =
-    further c.append_counts.new.out.items c.push.new.self.items c.args.out.now.items (93 ∷ []) c.append_counts.ensures.front c.in_ok-push.ensures.items
+returns-in_err-append_counts-clause-front c = further _ _ _ _ c.append_counts.ensures.front c.in_ok-push.ensures.items

@@ -19,20 +19,14 @@ returns-in-Ok-clause-ok c =
 
 pub returns-in_err-extend_from_slice-clause-front : goal.returns-in_err-extend_from_slice-clause-front
 returns-in_err-extend_from_slice-clause-front c =
-    let new = c.extend_from_slice.new.self.items in
-    let quote = c.push.new.self.items in
-    further new quote c.args.out.now.items _ (same_front new quote c.in_err-extend_from_slice.ensures.items) c.in_ok-push.ensures.items
+    further _ _ _ _ (same_front _ _ c.in_err-extend_from_slice.ensures.items) c.in_ok-push.ensures.items
 
 pub returns-in_err-push-2-clause-front : goal.returns-in_err-push-2-clause-front
 returns-in_err-push-2-clause-front c =
-    let new = c.push-then-is_plain.new.self.items in
-    let quote = c.push.new.self.items in
-    let text = c.extend_from_slice.new.self.items in
-    further new quote c.args.out.now.items _ (further new text quote _ (same_front new text c.in_err-push-2.ensures.items) c.in_ok-extend_from_slice.ensures.items) c.in_ok-push.ensures.items
+    further _ _ _ _ (further _ _ _ _ (same_front _ _ c.in_err-push-2.ensures.items) c.in_ok-extend_from_slice.ensures.items)
+    c.in_ok-push.ensures.items
 
 pub returns-then-is_plain-clause-front : goal.returns-then-is_plain-clause-front
 returns-then-is_plain-clause-front c =
-    let new = c.push-then-is_plain.new.self.items in
-    let quote = c.push.new.self.items in
-    let text = c.extend_from_slice.new.self.items in
-    further new quote c.args.out.now.items _ (further new text quote _ (longer_front new text _ c.in_ok-push-2.ensures.items) c.in_ok-extend_from_slice.ensures.items) c.in_ok-push.ensures.items
+    further _ _ _ _ (further _ _ _ _ (longer_front _ _ _ c.in_ok-push-2.ensures.items) c.in_ok-extend_from_slice.ensures.items)
+    c.in_ok-push.ensures.items

@@ -2,9 +2,10 @@ use Rattle.std.proofs.Common.{◌∙◌, ◌++◌, sym, ap, arith, take, append_
 use Rattle.std.proofs.lemmas.List.{take_all}
 use Rattle.std.specs.List.{join_with_byte}
 use Rattle.sample_tables.specs.Rows.{sample_at}
+use Rattle.byte_io.proofs.PieceTexts.{further}
 use Rattle.view_texts.proofs.Fronts.{longer_front}
 use Rattle.view_texts.specs.checked.Joined.{joint}
-use Rattle.view_texts.proofs.MergedLines.{joined_more, further}
+use Rattle.view_texts.proofs.MergedLines.{joined_more}
 use Rattle.view_texts.proofs.merged_lines.append_names.Goals as goal
 
 pub loop-frame-preserved : goal.loop-frame-preserved

@@ -1,6 +1,7 @@
 use Rattle.std.proofs.Common.{◌-◌, length, take, ltb, ap, arith}
+use Rattle.byte_io.proofs.PieceTexts.{further}
 use Rattle.view_texts.specs.checked.Joined.{joint, joined_names}
-use Rattle.view_texts.proofs.MergedLines.{further, ranks_joined_less, length-ranks_joined}
+use Rattle.view_texts.proofs.MergedLines.{ranks_joined_less, length-ranks_joined}
 use Rattle.view_texts.proofs.turned_names.cut_names.Goals as goal
 
 pub overflow_sub-length : goal.overflow_sub-length
