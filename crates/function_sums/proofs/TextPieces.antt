@@ -35,8 +35,8 @@ piece_of_row first line rows at place row e within =
     suc_is n = omega arith
 
 -- what stands above the lines is in two parts
-pub joined : (heading shown whole : List ℕ) (lines wanted : List Line) → heading ≡ shown ++ whole → lines ≡ wanted → heading ++ lines_text lines ≡ shown ++ (whole ++ lines_text wanted)
-joined heading shown whole lines wanted is are = (λ i. is i ++ lines_text (are i)) ∙ append_assoc shown whole (lines_text wanted)
+pub joined : {heading was shown : List ℕ} {lines wanted : List Line} (whole : List ℕ) → heading ≡ was ++ whole → was ≡ shown → lines ≡ wanted → heading ++ lines_text lines ≡ shown ++ (whole ++ lines_text wanted)
+joined {shown = shown} {wanted = wanted} whole is shown_is are = (λ i. is i ++ lines_text (are i)) ∙ ap (λ text. (text ++ whole) ++ lines_text wanted) shown_is ∙ append_assoc shown whole (lines_text wanted)
 
 -- ---- the line of JSON
 
