@@ -215,6 +215,14 @@ module _ {R G : Type 0} {may_stop may_go : G → ℕ → ℕ → Type 0} {gives 
             (subst (λ w. IsSettledAs kept (may_stop w) (may_go w) started.handle.promise.source rest stage list ledger) promise.gate_is (as_promised.holds list at.tracks)));
       }
 
+  -- of each that was started there is a ledger
+  ledger_at : (source : ℕ) → source < length all → (ledger : LedgerState) × (slice_get ledgers source ≡ Some ledger)
+  ledger_at source below = let count = settled.count in at_index ledgers source (omega arith)
+
+  -- and a reader
+  reader_at : (source : ℕ) → source < length all → (reader : R) × (slice_get readers source ≡ Some reader)
+  reader_at source below = let no_more = promised.no_more in let as_many = length-map all (λ s. s.handle.promise) in at_index readers source (omega arith)
+
   -- the rest of a source that was started is the one by which it is settled
   abbrev IsRestAt : ℕ → Rest → Type 0
   IsRestAt source rest = (started : RunningSource R G) (ledger : LedgerState) → slice_get all source ≡ Some started → slice_get ledgers source ≡ Some ledger → IsRestOf source started ledger rest
@@ -222,9 +230,7 @@ module _ {R G : Type 0} {may_stop may_go : G → ℕ → ℕ → Type 0} {gives 
   rest_at : All (λ reader. GivesSome (gives reader)) readers → (source : ℕ) (reader : R) → slice_get readers source ≡ Some reader → GivesSuch (gives reader) (IsRestAt source)
   rest_at possible source reader is_reader = elim (slice_get_cases all source).1 [
     | inl here ↦
-        let count = settled.count in
-        let below = here.1 in
-        let ledger = at_index ledgers source (omega arith) in
+        let ledger = ledger_at source here.1 in
         let one = source_settled source here.0 ledger.0 reader here.2 ledger.1 is_reader in
         record {
           rest = one.rest;
@@ -263,9 +269,7 @@ module _ {R G : Type 0} {may_stop may_go : G → ℕ → ℕ → Type 0} {gives 
       first source r is =
           elim (slice_get_cases all source).1 [
             | inl here ↦
-                let count = settled.count in
-                let below = here.1 in
-                let ledger = at_index ledgers source (omega arith) in
+                let ledger = ledger_at source here.1 in
                 (chosen.each source r is here.0 ledger.0 here.2 ledger.1).first
             | inr past ↦
                 let beyond = past.0 in
@@ -284,12 +288,8 @@ module _ {R G : Type 0} {may_stop may_go : G → ℕ → ℕ → Type 0} {gives 
       goes : (source : ℕ) → GoesBelow (may_go gate) source (length (list_of has_gained.lists source))
       goes source = elim (slice_get_cases all source).1 [
         | inl here ↦
-            let count = settled.count in
-            let below = here.1 in
-            let no_more = promised.no_more in
-            let as_many = length-map all (λ s. s.handle.promise) in
-            let ledger = at_index ledgers source (omega arith) in
-            let reader = at_index readers source (omega arith) in
+            let ledger = ledger_at source here.1 in
+            let reader = reader_at source here.1 in
             (source_settled source here.0 ledger.0 reader.0 here.2 ledger.1 reader.1).holds.goes
         | inr past ↦
             let beyond = past.0 in
@@ -336,13 +336,12 @@ module _ {R G : Type 0} {may_stop may_go : G → ℕ → ℕ → Type 0} {gives 
       each : (source : ℕ) (close : Option Close) → slice_get (map (λ ledger. ledger.close) ledgers) source ≡ Some close → of_source source heard.pairs ≡ ends_by Taking close (length (of_source source now.taken))
       each source close is =
           let count = settled.count in
-          let no_more = promised.no_more in
-          let as_many = length-map all (λ s. s.handle.promise) in
           let e = length-map ledgers (λ ledger. ledger.close) in
           let below = slice_get_within (map (λ ledger. ledger.close) ledgers) source close is in
-          let started = at_index all source (omega arith) in
-          let ledger = at_index ledgers source (omega arith) in
-          let reader = at_index readers source (omega arith) in
+          let within : source < length all = omega arith in
+          let started = at_index all source within in
+          let ledger = ledger_at source within in
+          let reader = reader_at source within in
           let is_intake = slice_get_map (λ s. s.intake) all source started.0 started.1 in
           let stage = is_taking started.0.intake.stage (has_gained.going not_refused source started.0.intake is_intake) (source_settled source started.0 ledger.0 reader.0 started.1 ledger.1 reader.1).holds.taken_or_dropped in
           let closed = same_Some started.0.intake.close close (sym (slice_get_map (λ s. s.intake.close) all source started.0 started.1) ∙ ap (λ closes. slice_get closes source) (sym same) ∙ is) in
@@ -380,9 +379,7 @@ module _ {R G : Type 0} {may_stop may_go : G → ℕ → ℕ → Type 0} {gives 
       each : (source : ℕ) (r : Rest) → slice_get chosen.rests source ≡ Some r → HearsEnd (may_stop gate) (may_go gate) source r start.taken now.taken (of_source source heard.pairs)
       each source r is = elim (slice_get_cases all source).1 [
         | inl here ↦
-            let count = settled.count in
-            let below = here.1 in
-            let ledger = at_index ledgers source (omega arith) in
+            let ledger = ledger_at source here.1 in
             one source r here.0.intake.stage here.0.intake.close ledger.0
             (same_Some ledger.0.close here.0.intake.close (sym (slice_get_map (λ ledger. ledger.close) ledgers source ledger.0 ledger.1) ∙ ap (λ closes. slice_get closes source) same ∙ slice_get_map (λ s. s.intake.close) all source here.0 here.2))
             (chosen.each source r is here.0 ledger.0 here.2 ledger.1).whole
