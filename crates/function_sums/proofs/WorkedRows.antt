@@ -22,23 +22,17 @@ samples =
     record { stack = []; weight = 4 } ∷
     record { stack = codes "z" ∷ []; weight = 0 } ∷ []
 
-recursion_counts_once : total_of (codes "f") samples ≡ 3
-recursion_counts_once = refl
+-- recursion counts once; the own weight is that of last frames, and the total that of callers too; z is without weight
+weights : (total_of (codes "f") samples ≡ 3)
+    × (own_of (codes "f") samples ≡ 2)
+    × (sums_of samples (codes "m") ≡ record { name = codes "m"; own = 3; total = 5 })
+    × (total_of (codes "z") samples ≡ 0)
+weights = (refl, refl, refl, refl)
 
-last_frames_count : own_of (codes "f") samples ≡ 2
-last_frames_count = refl
-
-callers_count : sums_of samples (codes "m") ≡ record { name = codes "m"; own = 3; total = 5 }
-callers_count = refl
-
-weightless : total_of (codes "z") samples ≡ 0
-weightless = refl
-
-heavier_first : sum_cmp Total (sums_of samples (codes "m")) (sums_of samples (codes "f")) ≡ Less
-heavier_first = refl
-
-ties_by_name : sum_cmp Own (record { name = codes "a"; own = 2; total = 2 }) (record { name = codes "b"; own = 2; total = 9 }) ≡ Less
-ties_by_name = refl
+-- the heavier is first, and of two that weigh the same the first by name
+ranks : (sum_cmp Total (sums_of samples (codes "m")) (sums_of samples (codes "f")) ≡ Less)
+    × (sum_cmp Own (record { name = codes "a"; own = 2; total = 2 }) (record { name = codes "b"; own = 2; total = 9 }) ≡ Less)
+ranks = (refl, refl)
 
 abbrev sum : List ℕ → ℕ → ℕ → FunctionSum
 sum name own total = record { name = name; own = own; total = total }
@@ -110,26 +104,15 @@ changes_by_length : changes_of (by_weight Own) short long
 unfolding changes_of
 changes_by_length = refl
 
--- from 40 to 45 hundredths: by 5, and no more
-by_just_five : grew_over 5 (from 10 100) (from 4 45) ≡ false
-by_just_five = refl
-
-by_more_than_five : grew_over 5 (from 10 1000) (from 4 451) ≡ true
-by_more_than_five = refl
-
--- a share that stays has not grown, whatever its weight, nor has one that shrinks
-at_all : grew_over 0 (from 10 100) (from 4 40) ≡ false
-at_all = refl
-
-shrinks : grew_over 0 (from 10 100) (from 6 10) ≡ false
-shrinks = refl
-
+-- from 40 to 45 hundredths is by 5, and no more; a share that stays has not grown, whatever its weight, nor has one that shrinks;
 -- of nothing, each share is nothing
-from_nothing : grew_over 49 (from 0 100) (from 0 50) ≡ true
-from_nothing = refl
-
-to_nothing : grew_over 0 (from 10 0) (from 4 0) ≡ false
-to_nothing = refl
+growths : (grew_over 5 (from 10 100) (from 4 45) ≡ false)
+    × (grew_over 5 (from 10 1000) (from 4 451) ≡ true)
+    × (grew_over 0 (from 10 100) (from 4 40) ≡ false)
+    × (grew_over 0 (from 10 100) (from 6 10) ≡ false)
+    × (grew_over 49 (from 0 100) (from 0 50) ≡ true)
+    × (grew_over 0 (from 10 0) (from 4 0) ≡ false)
+growths = (refl, refl, refl, refl, refl, refl)
 
 -- h alone grew, by 50 hundredths
 grown_by_half : grown 49 (from 10 100) (changes_of by_share short long) ≡ change (codes "h") (from 0 50) (from 0 50) ∷ []
@@ -151,23 +134,11 @@ calls =
     record { stack = codes "m" ∷ codes "f" ∷ []; weight = 0 } ∷
     record { stack = codes "g" ∷ []; weight = 8 } ∷ []
 
--- the root of a stack has no caller, and m calls f in a sample with weight alone
-callers_of_f : calls_of Callers (codes "f") calls ≡ sum (codes "f") 2 2 ∷ sum (codes "m") 0 2 ∷ sum (codes "g") 0 1 ∷ []
+-- the root of a stack has no caller, m calls f in a sample with weight alone, and nobody calls z
+beside : (calls_of Callers (codes "f") calls ≡ sum (codes "f") 2 2 ∷ sum (codes "m") 0 2 ∷ sum (codes "g") 0 1 ∷ [])
+    × (calls_of Callees (codes "f") calls ≡ sum (codes "f") 2 2 ∷ sum (codes "g") 1 1 ∷ [])
+    × (calls_of Callers (codes "g") calls ≡ sum (codes "m") 0 4 ∷ sum (codes "f") 1 1 ∷ [])
+    × (calls_of Callees (codes "g") calls ≡ sum (codes "h") 4 4 ∷ sum (codes "f") 0 1 ∷ [])
+    × (calls_of Callers (codes "z") calls ≡ [])
 unfolding calls_of
-callers_of_f = refl
-
-callees_of_f : calls_of Callees (codes "f") calls ≡ sum (codes "f") 2 2 ∷ sum (codes "g") 1 1 ∷ []
-unfolding calls_of
-callees_of_f = refl
-
-callers_of_g : calls_of Callers (codes "g") calls ≡ sum (codes "m") 0 4 ∷ sum (codes "f") 1 1 ∷ []
-unfolding calls_of
-callers_of_g = refl
-
-callees_of_g : calls_of Callees (codes "g") calls ≡ sum (codes "h") 4 4 ∷ sum (codes "f") 0 1 ∷ []
-unfolding calls_of
-callees_of_g = refl
-
-nobody_calls_z : calls_of Callers (codes "z") calls ≡ []
-unfolding calls_of
-nobody_calls_z = refl
+beside = (refl, refl, refl, refl, refl)

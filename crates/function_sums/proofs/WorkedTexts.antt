@@ -119,17 +119,11 @@ from before after = record { before = before; after = after }
 abbrev change : List ℕ → Change → Change → FunctionChange
 change name own total = record { name = name; own = own; total = total }
 
-more : signed true [] (from 8 20) ≡ codes "+12"
-unfolding digits
-more = refl
-
-less : signed false (codes "seconds") (from 4 1) ≡ codes "-3 s"
-unfolding weight_text quotient_text decimals digits
-less = refl
-
-as_much : signed true [] (from 7 7) ≡ codes "0"
-unfolding digits
-as_much = refl
+signs : (signed true [] (from 8 20) ≡ codes "+12")
+    × (signed false (codes "seconds") (from 4 1) ≡ codes "-3 s")
+    × (signed true [] (from 7 7) ≡ codes "0")
+unfolding digits weight_text quotient_text decimals
+signs = (refl, refl, refl)
 
 table_of_changes : changes_table true nothing_told 3 6 12345679 (change (codes "read") (from 4 12345678) (from 4 7) ∷ change (codes "main") (from 2 1) (from 6 6) ∷ [])
     ≡ codes "Showing 2 of 3 functions, total 6 before, 12345679 after\n"
