@@ -3,6 +3,7 @@ use Rattle.std.proofs.Common.{◌≡◌, ◌≢◌, ℕ, Bool, true, false, List
 use Rattle.std.proofs.lemmas.List.{map-append}
 use Rattle.std.proofs.lemmas.List.Elements.{recursion_from_All}
 use Rattle.std.specs.List.{AllByRecursion}
+use Rattle.rtrb.specs.Ring.{received}
 use Rattle.stack_core.specs.Ledgers.{LedgerState}
 use Rattle.stack_core.specs.Records.{stands_for, names_told, stacks_told, IsWellToldAfter}
 use Rattle.stack_core.proofs.RecordLemmas.{stands_for-append, names_told-append, stacks_told-append, IsWellTold-append, IsWellTold-front, IsWellTold-back}
@@ -13,17 +14,17 @@ use Rattle.stack_core.specs.declared.records.RingRecord.{RingRecord}
 use Rattle.stack_core.specs.declared.records.RingRecord.TheVariants.{Name, Row, Again, Close as CloseRecord}
 use Rattle.ring_collect.specs.declared.intakes.Stage.TheVariants as stage
 use Rattle.stack_core.specs.Interleaving.{sources_of}
-use Rattle.ring_collect.specs.checked.Batches.{records_in, close_after_batch}
+use Rattle.ring_collect.specs.checked.Batches.{records_in, records_of_all, close_after_batch}
 use Rattle.ring_collect.specs.checked.Records.{TakesRecord, RecordTaken, RecordRefused, RecordUnnamed, IsNamed, samples_in, ledger_after, close_after, of_one}
 use Rattle.ring_collect.specs.checked.Rings.{IsGathered, IsLimitedBatch}
-use Rattle.ring_collect.specs.checked.Intakes.{Brings, Tracked, HoldsAll, GainsMore, close_items}
+use Rattle.ring_collect.specs.checked.Intakes.{Brings, Tracked, Tracks, HoldsAll, GainsMore, close_items}
 use Rattle.ring_collect.specs.declared.intakes.Intake.{Intake}
 use Rattle.ring_collect.specs.declared.intakes.Origin.{Origin}
 use Rattle.ring_collect.specs.declared.batches.Batch.{Batch}
 use Rattle.ring_collect.specs.declared.batches.Batch.TheVariants.{One, Many}
 use Rattle.ring_collect.specs.declared.intakes.Stage.{Stage}
 use Rattle.ring_collect.specs.declared.intakes.Stage.TheVariants.{Taking, Unnamed}
-use Rattle.ring_collect.proofs.BatchLemmas.{gathered_open}
+use Rattle.ring_collect.proofs.BatchLemmas.{gathered_open, records_of_sent}
 
 dropping≢taking : stage.Dropping ≢ Taking
 dropping≢taking e = cc
@@ -281,3 +282,11 @@ brings_on {taken' = taken'} {taken''} {order' = order'} {order''} old mid new re
     (subst (λ o. GainsMore o (Tracked o.keeps (before ++ (records ++ one ∷ [])) new.close new.ledger new.stage) (list ++ gained.more) taken' taken'' order' order'' (new.stage ≢ stage.Dropping)) origin
     (subst (λ all. GainsMore mid.origin (Tracked mid.origin.keeps all new.close new.ledger new.stage) (list ++ gained.more) taken' taken'' order' order'' (new.stage ≢ stage.Dropping)) (append_assoc before records (one ∷ []))
     (second (before ++ records) (list ++ gained.more) (subst (λ o. Tracked o.keeps (before ++ records) None mid.ledger mid.stage (list ++ gained.more)) (sym origin) tracked_mid))))
+
+-- a batch came out of the ring, and these records in it
+pub batch_came : {taken taken' : List (ℕ × Sample)} {order order' : List ℕ} (old new : Intake) (batch : Batch) → received new.consumer ≡ received old.consumer ++ batch ∷ [] → new.origin ≡ old.origin → old.close ≡ None
+    → Brings (records_in batch) old new taken taken' order order' → (list : List Sample) → Tracks old list → GainsMore new.origin (Tracks new) list taken taken' order order' (new.stage ≢ stage.Dropping)
+batch_came {taken} {taken'} {order} {order'} old new batch came origin unclosed brings list tracked =
+    let gains = λ (o : Origin) (rs : List RingRecord). GainsMore o (Tracked o.keeps rs new.close new.ledger new.stage) list taken taken' order order' (new.stage ≢ stage.Dropping) in
+    subst (λ o. gains o (records_of_all (received new.consumer))) (sym origin)
+    (subst (gains old.origin) (sym (records_of_sent _ _ batch came)) (brings (records_of_all (received old.consumer)) list (along_close (sym unclosed) tracked)))

@@ -127,8 +127,7 @@ pub struct Intake {
 impl Intake {
     ghost use Rattle.std.specs.Prelude.{◌≡◌, ◌≢◌, ◌≤◌, ◌∷◌, [], All, List, None, length};
     ghost use Rattle.rtrb.specs.Ring.{SameConsumer};
-    ghost use Rattle.ring_collect.specs.checked.Batches.{records_in};
-    ghost use Rattle.ring_collect.specs.checked.Rings.{IsGathered, IsLimitedBatch, IsLimitedRecord};
+    ghost use Rattle.ring_collect.specs.checked.Rings.{IsLimitedRecord};
     ghost use Rattle.ring_collect.specs.checked.Records.{TakesRecord, close_after};
     ghost use Rattle.ring_collect.specs.checked.Intakes.{Brings, PopsOne, FindsNothing, Tracks, GainsMore};
     ghost use Rattle.sample_tables.specs.declared.samples.Sample.{Sample as TakenSample};
@@ -259,28 +258,6 @@ impl Intake {
         self.stage = self.take_record(popped, feed, sink, order);
     }
 
-    /// Takes or drops what came out of the ring.
-    fn take_batch<S, F: Feed<S>>(
-        &mut self,
-        popped: Batch,
-        feed: &mut F,
-        sink: &mut S,
-        order: &mut Vec<u32>,
-    )
-        requires unclosed { self.old.close ≡ None }
-        requires limits { IsLimitedBatch popped }
-        ensures origin { self.new.origin ≡ self.old.origin }
-        ensures consumer { self.new.consumer ≡ self.old.consumer }
-        ensures brings { Brings (records_in popped) self.old self.new (F.taken sink.old) (F.taken sink.new)
-            order.old.items order.new.items }
-        ensures setting { F.setting sink.new ≡ F.setting sink.old }
-    {
-        match popped {
-            Batch::One(one) => self.take_or_drop(one, feed, sink, order),
-            Batch::Many(records) => self.take_all(records, feed, sink, order),
-        }
-    }
-
     /// Takes the next batch, if one is there.
     pub fn take_next<S, F: Feed<S>>(
         &mut self,
@@ -302,7 +279,10 @@ impl Intake {
         let Ok(popped) = self.consumer.pop() else {
             return Look::Idle;
         };
-        self.take_batch(popped, feed, sink, order);
+        match popped {
+            Batch::One(one) => self.take_or_drop(one, feed, sink, order),
+            Batch::Many(records) => self.take_all(records, feed, sink, order),
+        }
         Look::Moved
     }
 
