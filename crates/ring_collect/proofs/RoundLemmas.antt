@@ -1,7 +1,8 @@
 -- What the sink gained, one look further.
-use Rattle.std.proofs.Common.{◌≡◌, ◌≢◌, ℕ, ◌<◌, ◌≤◌, ◌⊎◌, inl, inr, Bool, false, List, [], ◌∷◌, ◌++◌, length, map, refl, sym, ap, subst, ◌∙◌, arith, append-nil, append_assoc, None, Some, slice_get, slice_set}
-use Rattle.std.proofs.lemmas.List.{map-append, get_or-set_same, get_or-set_other, get_or-map, length-set, length-map}
-use Rattle.std.proofs.lemmas.Option.{slice_get-get_or, get_or_from_slice_get, slice_get_within, same_Some}
+use Rattle.std.proofs.Common.{◌≡◌, ◌≢◌, ℕ, ◌<◌, ◌≤◌, ◌⊎◌, inl, inr, Bool, false, List, [], ◌∷◌, ◌++◌, length, map, get_or, refl, sym, ap, subst, ◌∙◌, arith, append-nil, append_assoc, None, Some, slice_get, slice_set}
+use Rattle.std.proofs.lemmas.List.{map-append, map-set, get_or-set_same, get_or-set_other, get_or-map, length-set, length-map}
+use Rattle.std.proofs.Math.Seq.{map-set_same}
+use Rattle.std.proofs.lemmas.Option.{slice_get-get_or, get_or_from_slice_get, slice_get_read, slice_get_within, same_Some}
 use Rattle.stack_core.specs.Interleaving.{list_of, of_source, sources_of}
 use Rattle.stack_core.proofs.InterleavingLemmas.{of_source-append, of_source_at, of_source_past}
 use Rattle.sample_tables.specs.declared.samples.Sample.{Sample}
@@ -13,6 +14,7 @@ use Rattle.ring_collect.specs.checked.Rounds.{GoesOn, HasGained, IsAt}
 use Rattle.ring_collect.specs.declared.intakes.Intake.{Intake}
 use Rattle.ring_collect.specs.declared.intakes.Origin.{Origin}
 use Rattle.ring_collect.specs.declared.rounds.Collector.{Collector}
+use Rattle.ring_collect.specs.declared.running_sources.RunningSource.{RunningSource}
 use Rattle.ring_collect.specs.declared.intakes.Stage.{Stage}
 use Rattle.ring_collect.specs.declared.intakes.Stage.TheVariants.{Taking, Dropping, Unnamed}
 
@@ -68,7 +70,7 @@ pub gains_also : {origin : Origin} {tracks : List Sample → Type 0} {list : Lis
 gains_also {origin} {tracks} {list} {taken} {order = order} {order'} {went_well} same = subst (λ xs. GainsMore origin tracks list taken xs order order' went_well) (sym same)
 
 -- one source is looked into
-pub one_look : {start now now' : Held} {order order' : List ℕ} {refused refused' : Bool} {keeps : Bool} (intakes : List Intake) (at : ℕ) (old new : Intake)
+one_look : {start now now' : Held} {order order' : List ℕ} {refused refused' : Bool} {keeps : Bool} (intakes : List Intake) (at : ℕ) (old new : Intake)
     → slice_get intakes at ≡ Some old → new.origin ≡ old.origin
     → ((list : List Sample) → Tracks old list → GainsMore new.origin (Tracks new) list now.taken now'.taken order order' (refused' ≡ false))
     → old.close ≡ None → TellsEnd new now now'
@@ -207,6 +209,21 @@ module _ {R G : Type 0} where
     gained = λ keeps start gained. after.gained keeps start (before.gained keeps start gained);
     refused = λ goes. before.refused (after.refused goes);
     setting = after.setting ∙ before.setting;
+  }
+
+  -- one of its sources was looked into, and nothing else
+  pub one_looked : {old new : Collector R G} {taken taken' : List (ℕ × Sample)} {kept kept' : Kept} (at : ℕ) (was now : RunningSource R G) → at < length old.sources.items → was ≡ get_or old.sources.items at was
+      → new.sources.items ≡ slice_set old.sources.items at now → now.handle ≡ was.handle → now.intake.origin ≡ was.intake.origin
+      → ((list : List Sample) → Tracks was.intake list → GainsMore now.intake.origin (Tracks now.intake) list taken taken' old.order.items new.order.items (new.refused ≡ false))
+      → was.intake.close ≡ None → TellsEnd now.intake (held taken kept) (held taken' kept')
+      → (new.refused ≡ false → old.refused ≡ false) → (new.refused ≡ false → now.intake.stage ≢ Dropping) → unheard kept' ≡ unheard kept → GoesOn old new taken taken' kept kept'
+  one_looked {old} {new} {taken' = taken'} {kept' = kept'} at was now within here items handle origin looks was_open tells not_refused not_dropping setting = record {
+    handles = ap (map (λ s. s.handle)) items ∙ map-set_same (λ s. s.handle) old.sources.items at now was (handle ∙ ap (λ s. s.handle) here);
+    gained = λ keeps start gained. subst (λ intakes. HasGained keeps start intakes (held taken' kept') new.order.items new.refused) (sym (ap (map (λ s. s.intake)) items ∙ map-set (λ s. s.intake) old.sources.items at now))
+        (one_look (map (λ s. s.intake) old.sources.items) at was.intake now.intake (slice_get_map (λ s. s.intake) old.sources.items at was (slice_get_read old.sources.items _ at was refl within here))
+        origin looks was_open tells not_refused not_dropping gained);
+    refused = not_refused;
+    setting = setting;
   }
 
   -- what else the collecting thread counts changes nothing
