@@ -11,7 +11,7 @@ use Rattle.sample_tables.specs.declared.samples.Sample.{Sample}
 use Rattle.stack_core.specs.Prefixes.{IsPrefixOf}
 use Rattle.stack_core.specs.Reading.{Rest}
 use Rattle.stack_core.specs.Records.{names_at}
-use Rattle.stack_core.specs.RowReading.{GivesSome, GivesSuch, StepsAmong, sample_by}
+use Rattle.stack_core.specs.RowReading.{GivesSome, GivesSuch, StepsAmong, TellsAgain, sample_by}
 use Rattle.stack_core.specs.declared.endings.SourceEnd.{SourceEnd}
 use Rattle.stack_core.specs.declared.readers.RowStep.{RowStep}
 use Rattle.stack_core.specs.declared.readers.RowStep.TheVariants as step
@@ -160,6 +160,9 @@ empty : {A : Type 0} (xs : List A) → length xs ≤ 0 → xs ≡ []
 empty [] none = refl
 empty (x ∷ xs) none = absurd (omega (arith, none))
 
+worth_cons : (number : Stack → ℕ) (sample : Sample) (samples : List Sample) → worth number (sample ∷ samples) ≡ number sample.stack * sample.weight + worth number samples
+worth_cons number sample samples = sum_by-cons (λ sample. number sample.stack * sample.weight) sample samples
+
 -- ---- over what a reader may give
 
 -- there is a rest that may be given
@@ -193,20 +196,39 @@ left_none gives told found given = record {
 -- ---- one step
 
 module _ (gives gives' : Rest → Type 0) (told told' : ToldRows) (sums : List ℕ) where
+  -- these samples and what is found after a step are found before it, where a rest before has them more, or the sums
+  found_more : (front : List Sample) (sums' : List ℕ) (before after : Rest) → gives before → (given : GivesLeft gives' told' sums' after) → given.rest.ending ≡ before.ending
+      → ((number : Stack → ℕ) → worth number front + weigh (number_of_row number told') sums' + worth number given.rest.samples ≡ weigh (number_of_row number told) sums + worth number before.samples)
+      → length front + pending sums' + length given.rest.samples ≤ pending sums + length before.samples → GivesLeft gives told sums (record { samples = front ++ after.samples; ending = after.ending })
+  found_more front sums' before after is_given given ending weights count = record {
+    rest = before;
+    is_given = is_given;
+    holds = record {
+      weights = λ number. omega (arith, sum_by-append (λ sample. number sample.stack * sample.weight) front after.samples, given.holds.weights number, weights number);
+      ending = given.holds.ending ∙ ending;
+      count = omega (arith, given.holds.count, count, length-append front after.samples);
+    };
+  }
+
+  -- a sample of a stack that was told, of which the rest before or the sums have more, is found
+  found_again : (row weight : ℕ) (sums' : List ℕ) (before after : Rest) → gives before → (given : GivesLeft gives' told' sums' after) → given.rest.ending ≡ before.ending → row < length told.stacks → told' ≡ told
+      → ((number : Stack → ℕ) → number_of_row number told row * weight + weigh (number_of_row number told) sums' + worth number given.rest.samples ≡ weigh (number_of_row number told) sums + worth number before.samples)
+      → suc (pending sums') + length given.rest.samples ≤ pending sums + length before.samples → GivesSuch (GivesLeft gives told sums) (λ found. TellsAgain told told' row weight found after)
+  found_again row weight sums' before after is_given given ending known same weights count =
+      let sample : Sample = sample_by told.names (stack_at told.stacks row) weight in
+      record {
+        rest = record { samples = sample ∷ after.samples; ending = after.ending };
+        is_given = found_more (sample ∷ []) sums' before after is_given given ending
+            (λ number. omega (arith, worth_cons number sample [], ap (λ (told : ToldRows). weigh (number_of_row number told) sums') same, weights number)) (omega (arith, count));
+        holds = record { known = known; same = same; gives = record { samples = refl; ending = refl } };
+      }
+
   -- want of memory leaves what may be given
   pub left_refused : ((rest : Rest) → gives' rest → gives rest) → IsPrefixOf told.names told'.names → told'.stacks ≡ told.stacks → HaveNames told → length sums ≤ length told.stacks → (found : Rest) → GivesLeft gives' told' sums found
       → GivesLeft gives told sums found
-  left_refused kept names stacks named rows found given = record {
-    rest = given.rest;
-    is_given = kept given.rest given.is_given;
-    holds = record {
-      weights = λ number.
-          given.holds.weights number
-          ∙ ap (λ (left : ℕ). left + worth number given.rest.samples) (weigh_told told told' names.0 [] sums (sym names.1) (stacks ∙ sym (append-nil told.stacks)) named rows number);
-      ending = given.holds.ending;
-      count = given.holds.count;
-    };
-  }
+  left_refused kept names stacks named rows found given =
+      found_more [] sums given.rest found (kept given.rest given.is_given) given refl
+      (λ number. omega (arith, weigh_told told told' names.0 [] sums (sym names.1) (stacks ∙ sym (append-nil told.stacks)) named rows number)) (omega arith)
 
   -- a stack that is told is passed on, with its sample
   pub passed_new : (names : List (List ℕ)) (frames : List ℕ) (weight : ℕ) → HaveNames told → length sums ≤ length told.stacks → StepsAmong gives gives' told (step.New names frames weight) told'
@@ -217,24 +239,14 @@ module _ (gives gives' : Rest → Type 0) (told told' : ToldRows) (sums : List �
       let sample : Sample = sample_by told'.names frames weight in
       record {
         rest = record { samples = sample ∷ after.samples; ending = after.ending };
-        is_given = record {
-          rest = before.rest;
-          is_given = before.is_given;
-          holds = record {
-            weights = λ number.
-                let worth_of : Sample → ℕ = λ sample. number sample.stack * sample.weight in
-                omega (
-                  arith,
-                  sum_by-cons worth_of sample after.samples,
-                  given.holds.weights number,
-                  weigh_told told told' names (frames ∷ []) sums tells.names_told tells.stacks named rows number,
-                  ap (worth number) tells.gives.samples,
-                  sum_by-cons worth_of sample given.rest.samples,
-                );
-            ending = given.holds.ending ∙ tells.gives.ending;
-            count = omega (arith, given.holds.count, ap length tells.gives.samples);
-          };
-        };
+        is_given = found_more (sample ∷ []) sums before.rest after before.is_given given tells.gives.ending
+            (λ number. omega (
+              arith,
+              worth_cons number sample [],
+              weigh_told told told' names (frames ∷ []) sums tells.names_told tells.stacks named rows number,
+              ap (worth number) tells.gives.samples,
+              worth_cons number sample given.rest.samples,
+            )) (omega (arith, ap length tells.gives.samples));
         holds = record {
           names_told = tells.names_told;
           in_order = tells.in_order;
@@ -277,29 +289,9 @@ module _ (gives gives' : Rest → Type 0) (told told' : ToldRows) (sums : List �
       let before = among given.rest given.is_given in
       let tells = before.holds in
       let sample : Sample = sample_by told.names (stack_at told.stacks row) weight in
-      record {
-        rest = record { samples = sample ∷ after.samples; ending = after.ending };
-        is_given = record {
-          rest = before.rest;
-          is_given = before.is_given;
-          holds = record {
-            weights = λ number.
-                let worth_of : Sample → ℕ = λ sample. number sample.stack * sample.weight in
-                omega (
-                  arith,
-                  sum_by-cons worth_of sample after.samples,
-                  given.holds.weights number,
-                  ap (λ (told : ToldRows). weigh (number_of_row number told) sums') tells.same,
-                  keeps.weights (number_of_row number told),
-                  ap (worth number) tells.gives.samples,
-                  sum_by-cons worth_of sample given.rest.samples,
-                );
-            ending = given.holds.ending ∙ tells.gives.ending;
-            count = omega (arith, given.holds.count, keeps.given, ap length tells.gives.samples);
-          };
-        };
-        holds = record { known = tells.known; same = tells.same; gives = record { samples = refl; ending = refl } };
-      }
+      found_again row weight sums' before.rest after before.is_given given tells.gives.ending tells.known tells.same
+      (λ number. omega (arith, keeps.weights (number_of_row number told), ap (worth number) tells.gives.samples, worth_cons number sample given.rest.samples))
+      (omega (arith, keeps.given, ap length tells.gives.samples))
 
   -- a sample is left out, and its weight is in the sums
   pub left_out : (row weight : ℕ) (sums' : List ℕ) → Keeps row weight sums true sums' → StepsAmong gives gives' told (step.Again row weight) told' → (found : Rest) → GivesLeft gives' told' sums' found → GivesLeft gives told sums found
@@ -307,76 +299,41 @@ module _ (gives gives' : Rest → Type 0) (told told' : ToldRows) (sums : List �
       let before = among given.rest given.is_given in
       let tells = before.holds in
       let sample : Sample = sample_by told.names (stack_at told.stacks row) weight in
-      record {
-        rest = before.rest;
-        is_given = before.is_given;
-        holds = record {
-          weights = λ number.
-              omega (
-                arith,
-                given.holds.weights number,
-                ap (λ (told : ToldRows). weigh (number_of_row number told) sums') tells.same,
-                keeps.weights (number_of_row number told),
-                ap (worth number) tells.gives.samples,
-                sum_by-cons (λ sample. number sample.stack * sample.weight) sample given.rest.samples,
-              );
-          ending = given.holds.ending ∙ tells.gives.ending;
-          count = omega (arith, given.holds.count, keeps.given, ap length tells.gives.samples);
-        };
-      }
+      found_more [] sums' before.rest found before.is_given given tells.gives.ending
+      (λ number. omega (
+        arith,
+        ap (λ (told : ToldRows). weigh (number_of_row number told) sums') tells.same,
+        keeps.weights (number_of_row number told),
+        ap (worth number) tells.gives.samples,
+        worth_cons number sample given.rest.samples,
+      )) (omega (arith, keeps.given, ap length tells.gives.samples))
 
   -- behind the last sample a sum is given
-  pub given_sum : (last : SourceEnd) (row weight : ℕ) (sums' : List ℕ) → TakesSum row weight sums sums' → length sums ≤ length told.stacks → StepsAmong gives gives' told (step.End last) told'
+  given_sum : (last : SourceEnd) (row weight : ℕ) (sums' : List ℕ) → TakesSum row weight sums sums' → length sums ≤ length told.stacks → StepsAmong gives gives' told (step.End last) told'
       → StepsAmong (GivesLeft gives told sums) (GivesLeft gives' told' sums') told (step.Again row weight) told'
   given_sum last row weight sums' takes rows among after given =
       let before = among given.rest given.is_given in
-      let tells = before.holds in
-      let sample : Sample = sample_by told.names (stack_at told.stacks row) weight in
-      record {
-        rest = record { samples = sample ∷ after.samples; ending = after.ending };
-        is_given = record {
-          rest = before.rest;
-          is_given = before.is_given;
-          holds = record {
-            weights = λ number.
-                let worth_of : Sample → ℕ = λ sample. number sample.stack * sample.weight in
-                omega (
-                  arith,
-                  sum_by-cons worth_of sample after.samples,
-                  given.holds.weights number,
-                  ap (λ (told : ToldRows). weigh (number_of_row number told) sums') tells.same,
-                  takes.weights (number_of_row number told),
-                  ap (λ (rest : Rest). worth number rest.samples) tells.left,
-                );
-            ending = given.holds.ending ∙ ap (λ (rest : Rest). rest.ending) tells.left;
-            count = omega (arith, given.holds.count, takes.given, ap (λ (rest : Rest). length rest.samples) tells.left);
-          };
-        };
-        holds = record { known = omega (arith, takes.known, rows); same = tells.same; gives = record { samples = refl; ending = refl } };
-      }
+      let left = before.holds.left in
+      found_again row weight sums' before.rest after before.is_given given (ap (λ (rest : Rest). rest.ending) left) (omega (arith, takes.known, rows)) before.holds.same
+      (λ number. omega (arith, takes.weights (number_of_row number told), ap (λ (rest : Rest). worth number rest.samples) left)) (omega (arith, takes.given, ap (λ (rest : Rest). length rest.samples) left))
 
   -- with no sum left the ending is given
-  pub given_end : (last : SourceEnd) (sums' : List ℕ) → HasNoSum sums sums' → StepsAmong gives gives' told (step.End last) told' → StepsAmong (GivesLeft gives told sums) (GivesLeft gives' told' sums') told (step.End last) told'
+  given_end : (last : SourceEnd) (sums' : List ℕ) → HasNoSum sums sums' → StepsAmong gives gives' told (step.End last) told' → StepsAmong (GivesLeft gives told sums) (GivesLeft gives' told' sums') told (step.End last) told'
   given_end last sums' none among after given =
       let before = among given.rest given.is_given in
       let tells = before.holds in
       let no_sums : pending sums' ≡ 0 = ap pending none.none in
+      let as_many = ap (λ (rest : Rest). length rest.samples) tells.left in
+      let same_ending = ap (λ (rest : Rest). rest.ending) tells.left in
       record {
         rest = after;
-        is_given = record {
-          rest = before.rest;
-          is_given = before.is_given;
-          holds = record {
-            weights = λ number.
-                omega (arith, given.holds.weights number, ap (weigh (number_of_row number told')) none.none, none.weights (number_of_row number told), ap (λ (rest : Rest). worth number rest.samples) tells.left);
-            ending = given.holds.ending ∙ ap (λ (rest : Rest). rest.ending) tells.left;
-            count = omega (arith, given.holds.count, no_sums, none.given, ap (λ (rest : Rest). length rest.samples) tells.left);
-          };
-        };
+        is_given = found_more [] sums' before.rest after before.is_given given same_ending
+            (λ number. omega (arith, ap (weigh (number_of_row number told')) none.none, none.weights (number_of_row number told), ap (λ (rest : Rest). worth number rest.samples) tells.left))
+            (omega (arith, no_sums, none.given, as_many));
         holds = record {
           same = tells.same;
-          none = empty after.samples (omega (arith, given.holds.count, no_sums, ap (λ (rest : Rest). length rest.samples) tells.left, ap length tells.none));
-          last = given.holds.ending ∙ (ap (λ (rest : Rest). rest.ending) tells.left ∙ tells.last);
+          none = empty after.samples (omega (arith, given.holds.count, no_sums, as_many, ap length tells.none));
+          last = given.holds.ending ∙ (same_ending ∙ tells.last);
           left = refl;
         };
       }

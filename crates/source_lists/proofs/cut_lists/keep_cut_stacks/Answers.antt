@@ -1,17 +1,10 @@
 use Rattle.std.proofs.Common.{◌∙◌, ◌≡◌, ◌<◌, ◌-◌, ℕ, Bool, List, [], All, ap, arith, drop, get_or, length, map, subst, sym, take}
-use Rattle.std.proofs.lemmas.Result.{IfOk-from_err}
 use Rattle.std.proofs.lemmas.List.{length-drop, map_push, take_all, take_more}
 use Rattle.stack_core.specs.Ledgers.{LedgerState, keeping}
 use Rattle.source_lists.specs.checked.CutStacks.{from_marked, shown_numbers, unmarked}
 use Rattle.source_lists.specs.checked.KeptStacks.{begun}
 use Rattle.source_lists.proofs.CutLemmas.{all_shown_numbers, numbers_shorter}
 use Rattle.source_lists.proofs.cut_lists.keep_cut_stacks.Goals as goal
-
-pub returns-in_err-unmarked : goal.returns-in_err-unmarked
-returns-in_err-unmarked c = IfOk-from_err c.from_residual.result _ c.from_residual.ensures.0
-
-pub returns-in_err-keep : goal.returns-in_err-keep
-returns-in_err-keep c = IfOk-from_err c.from_residual-in_err-keep.result _ c.from_residual-in_err-keep.ensures.0
 
 -- the numbers that are kept are those that are shown of the stack
 shown_of_stack : (starts left_out : List Bool) (stack kept : List ℕ) (first : ℕ) → kept ≡ unmarked left_out (take (length stack - first) (drop first stack)) → drop first stack ≡ from_marked starts stack

@@ -1,7 +1,6 @@
 use Rattle.std.proofs.Common.{◌<◌, ◌+◌, [], ℕ, List, arith, length, subst, sym, take}
 use Rattle.source_lists.specs.checked.Joining.{AreFound, IsFound}
 use Rattle.source_lists.proofs.JoinLemmas.{names_more, tells_on}
-use Rattle.std.proofs.lemmas.Result.{IfOk-from_err}
 use Rattle.std.proofs.lemmas.List.{take_all}
 use Rattle.source_lists.proofs.joined_names.numbers_of_names.Goals as goal
 
@@ -18,24 +17,6 @@ loop-at-preserved c =
       found = subst (λ (numbers : List ℕ). AreFound [] ledger.told numbers (take (at + 1) told)) (sym c.in_ok-append_number.ensures) more;
       tells = tells_on c.args.ledger.now c.loop-at.ledger ledger c.loop-at.invariant.tells c.in_ok-number.ensures.tells;
     }
-
-pub returns-in_err-numbers-clause-found : goal.returns-in_err-numbers-clause-found
-returns-in_err-numbers-clause-found c = IfOk-from_err c.from_residual.result _ c.from_residual.ensures.0
-
-pub returns-in_err-numbers-clause-tells : goal.returns-in_err-numbers-clause-tells
-returns-in_err-numbers-clause-tells c = IfOk-from_err c.from_residual.result _ c.from_residual.ensures.0
-
-pub returns-in_err-number-clause-found : goal.returns-in_err-number-clause-found
-returns-in_err-number-clause-found c = IfOk-from_err c.from_residual-in_err-number.result _ c.from_residual-in_err-number.ensures.0
-
-pub returns-in_err-number-clause-tells : goal.returns-in_err-number-clause-tells
-returns-in_err-number-clause-tells c = IfOk-from_err c.from_residual-in_err-number.result _ c.from_residual-in_err-number.ensures.0
-
-pub returns-in_err-append_number-clause-found : goal.returns-in_err-append_number-clause-found
-returns-in_err-append_number-clause-found c = IfOk-from_err c.from_residual-in_err-append_number.result _ c.from_residual-in_err-append_number.ensures.0
-
-pub returns-in_err-append_number-clause-tells : goal.returns-in_err-append_number-clause-tells
-returns-in_err-append_number-clause-tells c = IfOk-from_err c.from_residual-in_err-append_number.result _ c.from_residual-in_err-append_number.ensures.0
 
 pub returns-clause-found : goal.returns-clause-found
 returns-clause-found c =

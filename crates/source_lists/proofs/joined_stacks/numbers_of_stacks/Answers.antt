@@ -3,7 +3,6 @@ use Rattle.std.specs.Prelude.{slice_index}
 use Rattle.stack_core.specs.Ledgers.{LedgerState}
 use Rattle.source_lists.specs.checked.Joining.{AreFound, named_stacks}
 use Rattle.source_lists.proofs.JoinLemmas.{keeps_on, renumbered_within, stacks_more}
-use Rattle.std.proofs.lemmas.Result.{IfOk-from_err}
 use Rattle.std.proofs.lemmas.List.{length-map, take_all}
 use Rattle.sample_tables.specs.Rows.{name_at}
 use Rattle.source_lists.proofs.joined_stacks.numbers_of_stacks.Goals as goal
@@ -33,30 +32,6 @@ loop-at-preserved c =
       found = subst (λ (numbers : List ℕ). AreFound [] (named_stacks new.told new.stacks) numbers (take (at + 1) wanted)) (sym c.in_ok-append_number.ensures) more;
       keeps = keeps_on c.args.ledger.now old new c.loop-at.invariant.keeps c.in_ok-number.ensures.keeps;
     }
-
-pub returns-in_err-numbers-clause-found : goal.returns-in_err-numbers-clause-found
-returns-in_err-numbers-clause-found c = IfOk-from_err c.from_residual.result _ c.from_residual.ensures.0
-
-pub returns-in_err-numbers-clause-keeps : goal.returns-in_err-numbers-clause-keeps
-returns-in_err-numbers-clause-keeps c = IfOk-from_err c.from_residual.result _ c.from_residual.ensures.0
-
-pub returns-in_err-renumber-clause-found : goal.returns-in_err-renumber-clause-found
-returns-in_err-renumber-clause-found c = IfOk-from_err c.from_residual-in_err-renumber.result _ c.from_residual-in_err-renumber.ensures.0
-
-pub returns-in_err-renumber-clause-keeps : goal.returns-in_err-renumber-clause-keeps
-returns-in_err-renumber-clause-keeps c = IfOk-from_err c.from_residual-in_err-renumber.result _ c.from_residual-in_err-renumber.ensures.0
-
-pub returns-in_err-number-clause-found : goal.returns-in_err-number-clause-found
-returns-in_err-number-clause-found c = IfOk-from_err c.from_residual-in_err-number.result _ c.from_residual-in_err-number.ensures.0
-
-pub returns-in_err-number-clause-keeps : goal.returns-in_err-number-clause-keeps
-returns-in_err-number-clause-keeps c = IfOk-from_err c.from_residual-in_err-number.result _ c.from_residual-in_err-number.ensures.0
-
-pub returns-in_err-append_number-clause-found : goal.returns-in_err-append_number-clause-found
-returns-in_err-append_number-clause-found c = IfOk-from_err c.from_residual-in_err-append_number.result _ c.from_residual-in_err-append_number.ensures.0
-
-pub returns-in_err-append_number-clause-keeps : goal.returns-in_err-append_number-clause-keeps
-returns-in_err-append_number-clause-keeps c = IfOk-from_err c.from_residual-in_err-append_number.result _ c.from_residual-in_err-append_number.ensures.0
 
 pub returns-clause-found : goal.returns-clause-found
 returns-clause-found c =

@@ -1,11 +1,7 @@
 use Rattle.std.proofs.Common.{◌∙◌, ◌<◌, ◌++◌, ◌∷◌, [], ℕ, List, ap, arith, get_or, length, map, sym, take}
 use Rattle.std.specs.Prelude.{slice_index}
-use Rattle.std.proofs.lemmas.Result.{IfOk-from_err}
 use Rattle.std.proofs.lemmas.List.{map_push, take_all, take_more}
 use Rattle.source_lists.proofs.joined_stacks.renumber.Goals as goal
-
-pub returns-in_err-push : goal.returns-in_err-push
-returns-in_err-push c = IfOk-from_err c.from_residual.result _ c.from_residual.ensures.0
 
 pub loop-number-preserved : goal.loop-number-preserved
 loop-number-preserved c =

@@ -1,15 +1,8 @@
 use Rattle.std.proofs.Common.{◌∙◌, ◌<◌, [], ap, arith, length, sym}
-use Rattle.std.proofs.lemmas.Result.{IfOk-from_err}
 use Rattle.std.proofs.lemmas.List.{take_all, take_more}
 use Rattle.stack_core.specs.Ledgers.{keeping}
 use Rattle.source_lists.specs.checked.KeptStacks.{begun}
 use Rattle.source_lists.proofs.kept_lists.keep_stacks.Goals as goal
-
-pub returns-in_err-numbers_of : goal.returns-in_err-numbers_of
-returns-in_err-numbers_of c = IfOk-from_err c.from_residual.result _ c.from_residual.ensures.0
-
-pub returns-in_err-keep : goal.returns-in_err-keep
-returns-in_err-keep c = IfOk-from_err c.from_residual-in_err-keep.result _ c.from_residual-in_err-keep.ensures.0
 
 pub loop-number-preserved : goal.loop-number-preserved
 loop-number-preserved c =

@@ -1,13 +1,6 @@
 use Rattle.std.proofs.Common.{◌∙◌, ◌<◌, ◌++◌, ◌∷◌, [], ℕ, List, ap, arith, get_or, length, sym}
-use Rattle.std.proofs.lemmas.Result.{IfOk-from_err}
 use Rattle.std.proofs.lemmas.List.{take_all, take_more}
 use Rattle.source_lists.proofs.kept_lists.numbers_of.Goals as goal
-
-pub returns-in_err-numbers : goal.returns-in_err-numbers
-returns-in_err-numbers c = IfOk-from_err c.from_residual.result _ c.from_residual.ensures.0
-
-pub returns-in_err-push : goal.returns-in_err-push
-returns-in_err-push c = IfOk-from_err c.from_residual-in_err-push.result _ c.from_residual-in_err-push.ensures.0
 
 pub loop-number-preserved : goal.loop-number-preserved
 loop-number-preserved c =

@@ -1,14 +1,7 @@
 use Rattle.std.proofs.Common.{◌∙◌, ◌<◌, ◌++◌, ◌∷◌, [], ℕ, List, ap, arith, length, sym}
-use Rattle.std.proofs.lemmas.Result.{IfOk-from_err}
 use Rattle.std.proofs.lemmas.List.{take_all, take_more}
 use Rattle.source_lists.specs.checked.KeptStacks.{begun}
 use Rattle.source_lists.proofs.kept_lists.tell_names.Goals as goal
-
-pub returns-in_err-from_str : goal.returns-in_err-from_str
-returns-in_err-from_str c = IfOk-from_err c.from_residual.result _ c.from_residual.ensures.0
-
-pub returns-in_err-tell : goal.returns-in_err-tell
-returns-in_err-tell c = IfOk-from_err c.from_residual-in_err-tell.result _ c.from_residual-in_err-tell.ensures.0
 
 pub loop-number-preserved : goal.loop-number-preserved
 loop-number-preserved c =

@@ -21,7 +21,7 @@ invariant_of-self-in-New-1 g c =
     let r = g.R.RowReader in
     let old = c.args.self.now in
     let new = c.next_row.new.self in
-    let among = subst (λ (step : RowStep). StepsAmong (r.gives old.reader) (r.gives new) (r.told old.reader) step (r.told new)) c.in-New.is c.in_ok-names.ensures.step in
+    let among = rw c.in-New.is at c.in_ok-names.ensures.step in
     record {
       rows = rows_new (r.gives old.reader) (r.gives new) (r.told old.reader) (r.told new) old.sums.items c.in-New.names c.in-New.frames c.in-New.weight c.next_row.ensures.possible old.rows among;
       numbers = named_new (r.gives old.reader) (r.gives new) (r.told old.reader) (r.told new) old.sums.items c.in-New.names c.in-New.frames c.in-New.weight c.next_row.ensures.possible old.numbers among;
@@ -35,7 +35,7 @@ returns-in-New-clause-passes g c =
     let old = c.args.self.now in
     let new = c.next_row.new.self in
     passed_new (r.gives old.reader) (r.gives new) (r.told old.reader) (r.told new) old.sums.items c.in-New.names c.in-New.frames c.in-New.weight old.numbers old.rows
-    (subst (λ (step : RowStep). StepsAmong (r.gives old.reader) (r.gives new) (r.told old.reader) step (r.told new)) c.in-New.is c.in_ok-names.ensures.step)
+    (rw c.in-New.is at c.in_ok-names.ensures.step)
 
 pub returns-in-New-clause-possible : goal.returns-in-New-clause-possible
 returns-in-New-clause-possible g c =
@@ -49,7 +49,7 @@ returns-then-keep-clause-passes g c =
     let new = c.next_row.new.self in
     let row = c.in-Again.row in
     let weight = c.in-Again.weight in
-    let among = subst (λ (step : RowStep). StepsAmong (r.gives old.reader) (r.gives new) (r.told old.reader) step (r.told new)) c.in-Again.is c.in_ok-names.ensures.step in (
+    let among = rw c.in-Again.is at c.in_ok-names.ensures.step in (
       left_out (r.gives old.reader) (r.gives new) (r.told old.reader) (r.told new) old.sums.items row weight c.keep.new.sums.items c.if-keep.ensures.sums among,
       (told_again (r.gives old.reader) (r.gives new) (r.told old.reader) (r.told new) old.sums.items row weight c.next_row.ensures.possible among).0,
     )
@@ -65,7 +65,7 @@ returns-else-keep-clause-passes g c =
     let old = c.args.self.now in
     let new = c.next_row.new.self in
     passed_again (r.gives old.reader) (r.gives new) (r.told old.reader) (r.told new) old.sums.items c.in-Again.row c.in-Again.weight c.keep.new.sums.items c.if-keep.ensures.sums
-    (subst (λ (step : RowStep). StepsAmong (r.gives old.reader) (r.gives new) (r.told old.reader) step (r.told new)) c.in-Again.is c.in_ok-names.ensures.step)
+    (rw c.in-Again.is at c.in_ok-names.ensures.step)
 
 pub returns-else-keep-clause-possible : goal.returns-else-keep-clause-possible
 returns-else-keep-clause-possible g c =
@@ -78,7 +78,7 @@ returns-in-End-clause-passes g c =
     let old = c.args.self.now in
     let new = c.next_row.new.self in
     given_last (r.gives old.reader) (r.gives new) (r.told old.reader) (r.told new) old.sums.items c.in-End.ending c.last_step.new.sums.items c.last_step.result c.last_step.ensures old.rows
-    (subst (λ (step : RowStep). StepsAmong (r.gives old.reader) (r.gives new) (r.told old.reader) step (r.told new)) c.in-End.is c.in_ok-names.ensures.step)
+    (rw c.in-End.is at c.in_ok-names.ensures.step)
 
 pub returns-in-End-clause-possible : goal.returns-in-End-clause-possible
 returns-in-End-clause-possible g c =
