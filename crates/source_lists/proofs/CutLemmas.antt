@@ -1,8 +1,7 @@
 -- What stacks are that begin at a frame of a name, and of which frames are left out, by the numbers of names.
-use Rattle.std.proofs.Common.{◌≡◌, ◌∙◌, ◌<◌, ◌≤◌, ◌+◌, ◌||◌, ℕ, zero, suc, Bool, true, false, cond, not, refl, sym, ap, arith, List, [], ◌∷◌, ◌++◌, length, take, map, get_or, All, Option, None, Some, is_some, string_bytes}
+use Rattle.std.proofs.Common.{◌≡◌, ◌∙◌, ◌<◌, ◌≤◌, ◌+◌, ℕ, zero, suc, Bool, true, false, cond, not, refl, sym, ap, arith, List, [], ◌∷◌, ◌++◌, length, take, map, get_or, All, Option, None, Some, is_some}
 use Rattle.std.specs.List.{filter, list_any}
 use Rattle.std.specs.Str.{bytes_eq}
-use Rattle.std.specs.Prelude.{String}
 use Rattle.std.proofs.lemmas.Bool.{false≢true, true≢false}
 use Rattle.std.proofs.lemmas.List.{map_push, get_or-map, take_more, length-map}
 use Rattle.std.proofs.lemmas.List.Elements.{All-filter, All-head, All-map, All-tail}
@@ -21,23 +20,14 @@ use Rattle.stack_core.specs.Reading.{IsSourceLimited, Rest}
 use Rattle.source_lists.specs.FromNames.{has_name, rest_from, stack_from}
 use Rattle.source_lists.specs.Lists.{AreLimited}
 use Rattle.source_lists.specs.OmittedNames.{rest_without, shown_rests, stack_without}
-use Rattle.source_lists.specs.checked.CutStacks.{begins, begun_stack, edited_rest, edited_sample, from_marked, is_among, shown_numbers, shown_stack, unmarked}
-use Rattle.source_lists.specs.checked.KeptStacks.{is_marked, passing_rest}
-use Rattle.source_lists.proofs.KeptLemmas.{limited_lists, sample_named, samples_of_rests}
+use Rattle.source_lists.specs.checked.CutStacks.{begun_stack, edited_rest, edited_sample, from_marked, shown_numbers, shown_stack, unmarked}
+use Rattle.source_lists.specs.checked.KeptStacks.{passing_rest}
+use Rattle.source_lists.specs.checked.NameMarks.{begins, is_among, is_marked}
+use Rattle.source_lists.proofs.KeptLemmas.{limited_lists, marked, sample_named, samples_of_rests}
 
 -- ---- names and their marks
 
 module _ (test : List ℕ → Bool) (told : List (List ℕ)) where
-  -- the mark of a name says whether it passes
-  marked : (k : ℕ) → k < length told → is_marked (map test told) k ≡ test (name_at told k)
-  marked k within = get_or-map test told k [] false within
-
-  -- a stack has such a name where one of its numbers is marked
-  pub any_passing : (frames : List ℕ) → All (λ k. k < length told) frames → list_any (is_marked (map test told)) frames ≡ list_any test (map (name_at told) frames)
-  any_passing [] h = refl
-  any_passing (k ∷ frames) h =
-      λ i. marked k (All-head (λ k. k < length told) k frames h) i || any_passing frames (All-tail (λ k. k < length told) k frames h) i
-
   chosen : (b : Bool) (k : ℕ) (frames left : List ℕ) → map (name_at told) (cond b (k ∷ frames) left) ≡ cond b (map (name_at told) (k ∷ frames)) (map (name_at told) left)
   chosen true k frames left = refl
   chosen false k frames left = refl
@@ -48,12 +38,7 @@ module _ (test : List ℕ → Bool) (told : List (List ℕ)) where
   unmarked_named (k ∷ frames) h =
       let later = unmarked (map test told) frames in
       chosen (not (is_marked (map test told) k)) k later later
-      ∙ (λ i. cond (not (marked k (All-head (λ k. k < length told) k frames h) i)) (name_at told k ∷ unmarked_named frames (All-tail (λ k. k < length told) k frames h) i) (unmarked_named frames (All-tail (λ k. k < length told) k frames h) i))
-
--- texts by their bytes
-pub any_named : {Z : Type 0} (test : List ℕ → Bool) (texts : List (String Z)) → list_any (λ text. test (string_bytes text)) texts ≡ list_any test (map string_bytes texts)
-any_named test [] = refl
-any_named test (text ∷ texts) = ap (λ more. test (string_bytes text) || more) (any_named test texts)
+      ∙ (λ i. cond (not (marked test told k (All-head (λ k. k < length told) k frames h) i)) (name_at told k ∷ unmarked_named frames (All-tail (λ k. k < length told) k frames h) i) (unmarked_named frames (All-tail (λ k. k < length told) k frames h) i))
 
 -- a stack begins at its first number with a mark
 begun_named : (from : Option (List ℕ)) (told : List (List ℕ)) (frames : List ℕ) → All (λ k. k < length told) frames → map (name_at told) (from_marked (map (begins from) told) frames) ≡ begun_stack from (map (name_at told) frames)
@@ -74,13 +59,14 @@ all_from_marked P marks (k ∷ frames) h = go (is_marked marks k) (all_from_mark
     go true later = h
     go false later = later
 
+one_or_later : {X : Type 0} (b : Bool) (x : X) (xs later : List X) → length later ≤ length xs → length (cond b (x ∷ xs) later) ≤ length (x ∷ xs)
+one_or_later true x xs later fewer = omega arith
+one_or_later false x xs later fewer = omega (arith, fewer)
+
 from_marked_shorter : (marks : List Bool) (frames : List ℕ) → length (from_marked marks frames) ≤ length frames
 from_marked_shorter marks [] = omega arith
-from_marked_shorter marks (k ∷ frames) = go (is_marked marks k) (from_marked_shorter marks frames)
-  where
-    go : (b : Bool) → length (from_marked marks frames) ≤ length frames → length (cond b (k ∷ frames) (from_marked marks frames)) ≤ length (k ∷ frames)
-    go true later = omega (arith, later)
-    go false later = omega (arith, later)
+from_marked_shorter marks (k ∷ frames) =
+    one_or_later (is_marked marks k) k frames (from_marked marks frames) (from_marked_shorter marks frames)
 
 fewer : {X : Type 0} (p : X → Bool) (xs : List X) → length (filter p xs) ≤ length xs
 fewer p xs = omega (arith, length-filter_both p (λ x. not (p x)) (λ _. refl) xs)
@@ -125,11 +111,8 @@ cut_more edit samples i within =
 -- cutting leaves a source within its limits
 shorter : (name : List ℕ) (stack : List (List ℕ)) → length (stack_from name stack) ≤ length stack
 shorter name [] = omega arith
-shorter name (frame ∷ stack) = go (bytes_eq frame name) (shorter name stack)
-  where
-    go : (b : Bool) → length (stack_from name stack) ≤ length stack → length (cond b (frame ∷ stack) (stack_from name stack)) ≤ length (frame ∷ stack)
-    go true later = omega (arith, later)
-    go false later = omega (arith, later)
+shorter name (frame ∷ stack) =
+    one_or_later (bytes_eq frame name) frame stack (stack_from name stack) (shorter name stack)
 
 abbrev Shortens : (List (List ℕ) → List (List ℕ)) → Type 0
 Shortens edit = (stack : List (List ℕ)) → length (edit stack) ≤ length stack

@@ -1,9 +1,9 @@
 -- What is kept of lists, by the numbers of names and stacks.
-use Rattle.std.proofs.Common.{◌≡◌, ◌∙◌, ◌<◌, ◌≤◌, ◌+◌, ◌||◌, ◌&&◌, ℕ, zero, suc, Bool, true, false, cond, not, refl, sym, ap, subst, arith, List, [], ◌∷◌, ◌++◌, length, take, map, get_or, All}
+use Rattle.std.proofs.Common.{◌≡◌, ◌∙◌, ◌<◌, ◌≤◌, ◌+◌, ◌||◌, ◌&&◌, ℕ, zero, suc, Bool, true, false, cond, not, refl, sym, ap, subst, arith, List, [], ◌∷◌, ◌++◌, length, take, map, get_or, All, string_bytes}
 use Rattle.std.specs.List.{filter, list_any}
-use Rattle.std.specs.Prelude.{Option, Some, None, nat_eq}
+use Rattle.std.specs.Prelude.{Option, Some, None, String, nat_eq}
 use Rattle.std.proofs.lemmas.Bool.Decides.{nat_tests}
-use Rattle.std.proofs.lemmas.List.{map_push, get_or-map, take_all, take_more, length-map, map-append}
+use Rattle.std.proofs.lemmas.List.{get_or-map, take_all, take_more, length-map, map-append}
 use Rattle.std.proofs.lemmas.List.Elements.{All-filter, All-head, All-tail, All-map, filter-append, filter_more}
 use Rattle.std.proofs.lemmas.List.Filters.{sum_by-filter_both}
 use Rattle.std.proofs.lemmas.Simd.{map-map}
@@ -23,7 +23,8 @@ use Rattle.run_options.specs.declared.filters.Filter.{Filter}
 use Rattle.merged_stacks.specs.Timeline.{samples_of}
 use Rattle.ring_collect.specs.Collection.{seen_as_rest}
 use Rattle.source_lists.specs.Lists.{AreLimited}
-use Rattle.source_lists.specs.checked.KeptStacks.{all_are_passing, are_matched, are_passing, is_marked, passing_rest, passing_samples}
+use Rattle.source_lists.specs.checked.KeptStacks.{all_are_passing, are_passing, keeps_marked, passing_rest, passing_samples}
+use Rattle.source_lists.specs.checked.NameMarks.{begins, is_marked}
 use Rattle.source_lists.proofs.OrderLemmas.{length-interleaved, no_pair, pair_at}
 
 -- ---- names and stacks
@@ -32,23 +33,34 @@ or_false : (b : Bool) → (b || false) ≡ b
 or_false true = refl
 or_false false = refl
 
--- one name more
-pub matched_more : (texts told : List (List ℕ)) (n : ℕ) (marks : List Bool) (b : Bool) → n < length told → marks ≡ are_matched texts (take n told) → b ≡ has_match texts (name_at told n ∷ []) → marks ++ b ∷ [] ≡ are_matched texts (take (n + 1) told)
-matched_more texts told n marks b within so_far one =
-    (λ i. so_far i ++ one i ∷ [])
-    ∙ (sym (map_push (λ name. has_match texts (name ∷ [])) (take n told) (name_at told n)) ∙ ap (are_matched texts) (sym (take_more told n [] within)))
+and_true : (b : Bool) → (b && true) ≡ b
+and_true true = refl
+and_true false = refl
 
--- the mark of a name says whether it is matched
-marked : (texts told : List (List ℕ)) (k : ℕ) → k < length told → is_marked (are_matched texts told) k ≡ list_any (λ text. has_text text (name_at told k)) texts
-marked texts told k within =
-    get_or-map (λ name. has_match texts (name ∷ [])) told k [] false within
-    ∙ or_false (list_any (λ text. has_text text (name_at told k)) texts)
+-- texts by their bytes
+pub any_named : {Z : Type 0} (test : List ℕ → Bool) (texts : List (String Z)) → list_any (λ text. test (string_bytes text)) texts ≡ list_any test (map string_bytes texts)
+any_named test [] = refl
+any_named test (text ∷ texts) = ap (λ more. test (string_bytes text) || more) (any_named test texts)
 
--- a stack is matched where one of its numbers is marked
-pub any_marked : (texts told : List (List ℕ)) (frames : List ℕ) → All (λ k. k < length told) frames → list_any (is_marked (are_matched texts told)) frames ≡ has_match texts (map (name_at told) frames)
-any_marked texts told [] h = refl
-any_marked texts told (k ∷ frames) h =
-    λ i. marked texts told k (All-head (λ k. k < length told) k frames h) i || any_marked texts told frames (All-tail (λ k. k < length told) k frames h) i
+module _ (test : List ℕ → Bool) (told : List (List ℕ)) where
+  -- the mark of a name says whether it passes
+  pub marked : (k : ℕ) → k < length told → is_marked (map test told) k ≡ test (name_at told k)
+  marked k within = get_or-map test told k [] false within
+
+  -- a stack has such a name where one of its numbers is marked
+  any_passing : (frames : List ℕ) → All (λ k. k < length told) frames → list_any (is_marked (map test told)) frames ≡ list_any test (map (name_at told) frames)
+  any_passing [] h = refl
+  any_passing (k ∷ frames) h =
+      λ i. marked k (All-head (λ k. k < length told) k frames h) i || any_passing frames (All-tail (λ k. k < length told) k frames h) i
+
+-- a stack is matched where one of its names is
+any_matched : (texts : List (List ℕ)) (stack : List (List ℕ)) → list_any (λ name. has_match texts (name ∷ [])) stack ≡ has_match texts stack
+any_matched texts [] = refl
+any_matched texts (name ∷ stack) = λ i. or_false (list_any (λ text. has_text text name) texts) i || any_matched texts stack i
+
+none_marked : (numbers : List ℕ) → list_any (is_marked []) numbers ≡ false
+none_marked [] = refl
+none_marked (k ∷ numbers) = none_marked numbers
 
 -- nothing is shown where there is nothing
 pub none_shown : {X : Type 0} (show : X → List ℕ) (items : List X) (texts : List (List ℕ)) → map show items ≡ texts → nat_eq (length items) 0 ≡ is_none texts
@@ -60,10 +72,16 @@ not_not true = refl
 not_not false = refl
 
 pub keeps_by_marks : (asked : Filter) (told : List (List ℕ)) (frames : List ℕ) → All (λ k. k < length told) frames
-    → ((not (not (is_none asked.focus)) || list_any (is_marked (are_matched asked.focus told)) frames) && not (list_any (is_marked (are_matched asked.hide told)) frames))
-    ≡ keeps asked (map (name_at told) frames)
+    → keeps_marked (not (is_none asked.focus)) (map (λ name. has_match asked.focus (name ∷ [])) told) (map (λ name. has_match asked.hide (name ∷ [])) told) frames ≡ keeps asked (map (name_at told) frames)
 keeps_by_marks asked told frames h =
-    λ i. (not_not (is_none asked.focus) i || any_marked asked.focus told frames h i) && not (any_marked asked.hide told frames h i)
+    let matched : (texts : List (List ℕ)) → list_any (is_marked (map (λ name. has_match texts (name ∷ [])) told)) frames ≡ has_match texts (map (name_at told) frames) =
+    λ texts. any_passing (λ name. has_match texts (name ∷ [])) told frames h ∙ any_matched texts (map (name_at told) frames) in
+    λ i. (not_not (is_none asked.focus) i || matched asked.focus i) && not (matched asked.hide i)
+
+pub begun_by_marks : (from : Option (List ℕ)) (told : List (List ℕ)) (frames : List ℕ) → All (λ k. k < length told) frames
+    → keeps_marked true (map (begins from) told) [] frames ≡ list_any (begins from) (map (name_at told) frames)
+begun_by_marks from told frames h =
+    (λ i. any_passing (begins from) told frames h i && not (none_marked frames i)) ∙ and_true (list_any (begins from) (map (name_at told) frames))
 
 -- ---- samples
 

@@ -4,7 +4,7 @@ use Rattle.std.specs.List.{slice_get}
 use Rattle.std.specs.Option.{option_map}
 use Rattle.std.specs.Prelude.{Option, Some, nat_eq}
 use Rattle.std.proofs.lemmas.Bool.{cases_eq, cases_lt}
-use Rattle.std.proofs.lemmas.List.{get_or-map, get_or_past, get_or-set_same, get_or-set_other, length-map, length-take-le, take_all, take_more, take-append-drop}
+use Rattle.std.proofs.lemmas.List.{get_or-map, get_or_default, get_or_past, get_or-set_same, get_or-set_other, length-map, length-take-le, take_all, take_more, take-append-drop}
 use Rattle.std.proofs.lemmas.List.Sums.{count_by-le-length}
 use Rattle.std.proofs.lemmas.Option.{get_or_from_slice_get, slice_get-get_or}
 use Rattle.sample_tables.specs.declared.samples.Sample.{Sample}
@@ -39,6 +39,21 @@ next_within order lists p source h within is =
       | inr past ↦ absurd (omega (arith, within_list, ap length (get_or_past lists source [] past)))
     ] in
     (is_source, within_list)
+
+-- the next sample is of one of the lists, and stands in it
+pub next_of : (order : List ℕ) (lists : List ListState) (p : ℕ) → IsInterleaving order (samples_of lists) → p < length order
+    → (get_or order p 0 < length lists) × (count_of (get_or order p 0) (take p order) < length (list_of (samples_of lists) (get_or order p 0)))
+next_of order lists p ordered within =
+    let next = next_within order (samples_of lists) p (get_or order p 0) ordered within refl in
+    (omega (arith, next.0, length-map lists (λ (list : ListState). list.samples)), next.1)
+
+-- what came of its source, where each source is counted
+pub came_of_next : (order came : List ℕ) (lists : List ListState) (p at : ℕ) → IsInterleaving order (samples_of lists) → p < length order → length came ≡ length lists
+    → ((source : ℕ) → source < length lists → get_or came source 0 ≡ count_of source (take p order)) → at ≡ get_or came (get_or order p 0) at → at ≡ count_of (get_or order p 0) (take p order)
+came_of_next order came lists p at ordered within as_many counted is =
+    let source = get_or order p 0 in
+    let below : source < length lists = (next_of order lists p ordered within).0 in
+    is ∙ (get_or_default came source at 0 (omega (arith, below, as_many)) ∙ counted source below)
 
 -- a source counts less than all that came
 pub count_at_most : (order : List ℕ) (p source : ℕ) → p ≤ length order → count_of source (take p order) ≤ p

@@ -5,6 +5,7 @@ pub mod InputReaders
 pub mod Inputs
 pub mod Joining
 pub mod KeptStacks
+pub mod NameMarks
 pub mod OpenRuns
 pub mod PartRuns
 pub mod Parts

@@ -6,8 +6,9 @@ ghost use Rattle.ring_collect.specs.Collection.{seen_as_rest};
 ghost use Rattle.source_lists.specs.checked.CutStacks.{edited_rest, shown_numbers, shown_stack};
 ghost use Rattle.source_lists.specs.checked.KeptStacks.{begun};
 
-use crate::cut_stacks::{begun_marks, first_marked, omitted_marks, unmarked};
+use crate::cut_stacks::{first_marked, unmarked};
 use crate::kept_lists::tell_names;
+use crate::name_marks::{NameTest, marks_of};
 use stack_core::{Close, Ledger, Names, SourceList, Text};
 use std::alloc::{AllocError, Global};
 
@@ -41,8 +42,8 @@ fn cut_list(
     ensures { IfOk result (λ cut. seen_as_rest cut
         ≡ edited_rest (shown_stack from.now omitted.now) (seen_as_rest list.now)) }
 {
-    let starts = begun_marks(alloc, list, from)?;
-    let left_out = omitted_marks(alloc, list, omitted)?;
+    let starts = marks_of(alloc, list, NameTest::Begins(from))?;
+    let left_out = marks_of(alloc, list, NameTest::IsAmong(omitted))?;
     let mut ledger = Ledger::new(alloc);
     tell_names(alloc, &mut ledger, list)?;
     keep_cut_stacks(alloc, &mut ledger, list, &starts, &left_out)?;

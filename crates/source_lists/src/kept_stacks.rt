@@ -1,68 +1,57 @@
-//! Which stacks of a list a filter keeps: each name is looked at once, and each stack once.
+//! Which stacks of a list are kept: each name is looked at once, and each stack once.
 
-ghost use Rattle.std.specs.Prelude.{◌≡◌, ◌<◌, ◌||◌, ◌&&◌, ℕ, Bool, List, IfOk, length, map, not};
-ghost use Rattle.std.specs.List.{list_any};
-ghost use Rattle.sample_tables.specs.Rows.{AreNamed, sample_at};
-ghost use Rattle.run_options.specs.Filters.{is_none};
-ghost use Rattle.source_lists.specs.checked.KeptStacks.{all_are_kept, are_kept, are_matched, are_passing, is_marked};
+ghost use Rattle.std.specs.Prelude.{◌≡◌, ◌<◌, ℕ, Bool, List, All, IfOk, length, map};
+ghost use Rattle.sample_tables.specs.Rows.{AreNamed, name_at, sample_at};
+ghost use Rattle.source_lists.specs.checked.KeptStacks.{all_are_passing, are_passing, keeps_marked, passes};
 
+use crate::name_marks::{NameTest, has_mark, is_set, marks_of};
 use run_options::Filter;
-use stack_core::SourceList;
+use stack_core::{SourceList, Text};
 use std::alloc::{AllocError, Global};
 
-/// For each name of a list whether a filter has it in the focus, and whether it hides it.
+/// Which samples are kept, by their stacks.
+#[derive(Clone, Copy)]
+pub(crate) enum Keeping<'a> {
+    /// Those that a filter keeps.
+    Filtered(&'a Filter),
+    /// Those with a frame at which a stack may begin.
+    Begun(&'a Option<Text>),
+}
+
+/// For each name of a list whether stacks are kept for it, and whether they are left out for it.
 #[derive(Drop)]
-struct NameMarks {
+struct StackMarks {
     has_focus: bool,
     focus: Vec<bool>,
     hide: Vec<bool>,
 }
 
-impl NameMarks {
-    fn of(alloc: Global, list: &SourceList, filter: &Filter) -> Result<NameMarks, AllocError>
-        ensures has_focus { IfOk result (λ marks.
-            marks.has_focus ≡ not (is_none filter.now.focus)) }
-        ensures focus { IfOk result (λ marks.
-            marks.focus.items ≡ are_matched filter.now.focus list.now.told) }
-        ensures hide { IfOk result (λ marks.
-            marks.hide.items ≡ are_matched filter.now.hide list.now.told) }
+impl StackMarks {
+    fn of(alloc: Global, list: &SourceList, keeping: Keeping<'_>) -> Result<StackMarks, AllocError>
+        ensures { IfOk result (λ marks. (frames : List ℕ) → All (λ k. k < length list.now.told) frames
+            → keeps_marked marks.has_focus marks.focus.items marks.hide.items frames
+            ≡ passes keeping.entry (map (name_at list.now.told) frames)) }
     {
-        let count = list.told();
-        let mut focus = Vec::with_capacity(alloc, count)?;
-        let mut hide = Vec::with_capacity(alloc, count)?;
-        for number in 0..count {
-            let name = list.told_name(number);
-            focus.push(filter.focuses(name))?;
-            hide.push(filter.hides(name))?;
+        match keeping {
+            Keeping::Filtered(filter) => Ok(StackMarks {
+                has_focus: !filter.focus.get().is_empty(),
+                focus: marks_of(alloc, list, NameTest::HasFocus(filter))?,
+                hide: marks_of(alloc, list, NameTest::IsHidden(filter))?,
+            }),
+            Keeping::Begun(from) => Ok(StackMarks {
+                has_focus: true,
+                focus: marks_of(alloc, list, NameTest::Begins(from))?,
+                hide: Vec::new(alloc),
+            }),
         }
-        let has_focus = !filter.focus.get().is_empty();
-        Ok(NameMarks {
-            has_focus,
-            focus,
-            hide,
-        })
     }
 
     /// Whether a stack of these numbers is kept.
     fn keep(&self, frames: &[u32]) -> bool
-        ensures { result ≡ ((not self.now.has_focus || list_any (is_marked self.now.focus.items) frames.now)
-            && not (list_any (is_marked self.now.hide.items) frames.now)) }
+        ensures { result ≡ keeps_marked self.now.has_focus self.now.focus.items self.now.hide.items frames.now }
     {
         (!self.has_focus || has_mark(&self.focus, frames)) && !has_mark(&self.hide, frames)
     }
-}
-
-/// Whether the mark of one of the numbers is set.
-pub(crate) fn has_mark(marks: &[bool], numbers: &[u32]) -> bool
-    ensures { result ≡ list_any (is_marked marks.now) numbers.now }
-{
-    numbers.iter().any(|number| is_set(marks, *number as usize))
-}
-
-pub(crate) fn is_set(marks: &[bool], number: usize) -> bool
-    ensures { result ≡ is_marked marks.now number }
-{
-    number < marks.len() && marks[number]
 }
 
 /// Whether the sample at a place of the list has a stack that is kept.
@@ -76,11 +65,15 @@ pub(crate) fn is_kept(list: &SourceList, kept: &[bool], at: usize) -> bool
     at < count && is_set(kept, list.stack_number(at))
 }
 
-/// For each stack of the list whether the filter keeps it.
-fn kept_stacks(alloc: Global, list: &SourceList, filter: &Filter) -> Result<Vec<bool>, AllocError>
-    ensures { IfOk result (λ kept. kept.items ≡ are_kept filter.now list.now) }
+/// For each stack of the list whether it is kept.
+fn kept_stacks(
+    alloc: Global,
+    list: &SourceList,
+    keeping: Keeping<'_>,
+) -> Result<Vec<bool>, AllocError>
+    ensures { IfOk result (λ kept. kept.items ≡ are_passing (passes keeping.entry) list.now) }
 {
-    let marks = NameMarks::of(alloc, list, filter)?;
+    let marks = StackMarks::of(alloc, list, keeping)?;
     let count = list.stack_count();
     let mut kept = Vec::with_capacity(alloc, count)?;
     for number in 0..count {
@@ -93,14 +86,14 @@ fn kept_stacks(alloc: Global, list: &SourceList, filter: &Filter) -> Result<Vec<
 pub(crate) fn all_kept_stacks(
     alloc: Global,
     lists: &[SourceList],
-    filter: &Filter,
+    keeping: Keeping<'_>,
 ) -> Result<Vec<Vec<bool>>, AllocError>
     ensures { IfOk result (λ kept.
-        map (λ marks. marks.items) kept.items ≡ all_are_kept filter.now lists.now) }
+        map (λ marks. marks.items) kept.items ≡ all_are_passing (passes keeping.entry) lists.now) }
 {
     let mut kept = Vec::with_capacity(alloc, lists.len())?;
     for list in lists {
-        kept.push(kept_stacks(alloc, list, filter)?)?;
+        kept.push(kept_stacks(alloc, list, keeping)?)?;
     }
     Ok(kept)
 }

@@ -14,6 +14,7 @@ mod kept_order;
 mod kept_stacks;
 pub mod laws;
 mod loaded_sources;
+mod name_marks;
 mod open_runs;
 mod part_lists;
 mod part_runs;

@@ -1,7 +1,6 @@
 //! What a run collected of its sources.
 
 ghost use Rattle.std.specs.Prelude.{◌≡◌, ◌<◌, ◌≤◌, ◌^◌, ◌∷◌, [], All, IfOk, length, map};
-ghost use Rattle.std.specs.List.{list_any};
 ghost use Rattle.stack_core.specs.Interleaving.{IsInterleaving};
 ghost use Rattle.stack_core.specs.Reading.{IsSourceLimited};
 ghost use Rattle.sample_tables.specs.Samples.{IsLimited};
@@ -12,14 +11,13 @@ ghost use Rattle.ring_collect.specs.Collection.{seen_as_rest};
 ghost use Rattle.run_options.specs.Filters.{kept_rest};
 ghost use Rattle.source_lists.specs.Lists.{AreLimited};
 ghost use Rattle.source_lists.specs.OmittedNames.{shown_rests};
-ghost use Rattle.source_lists.specs.checked.CutStacks.{begins, edited_rest, shown_stack};
-ghost use Rattle.source_lists.specs.checked.KeptStacks.{passing_rest};
+ghost use Rattle.source_lists.specs.checked.CutStacks.{edited_rest, shown_stack};
+ghost use Rattle.source_lists.specs.checked.KeptStacks.{passes, passing_rest};
 
 use crate::cut_lists::cut_lists;
-use crate::cut_stacks::all_stacks_with;
 use crate::kept_lists::kept_lists;
 use crate::kept_order::kept_order;
-use crate::kept_stacks::all_kept_stacks;
+use crate::kept_stacks::{Keeping, all_kept_stacks};
 use merged_stacks::total_weight;
 use ring_collect::Collected;
 use run_options::Filter;
@@ -78,20 +76,16 @@ impl SourceLists {
         if filter.is_everything() {
             return Ok(self);
         }
-        let SourceLists { lists, order } = self;
-        let kept = all_kept_stacks(alloc, &lists, filter)?;
-        let order = kept_order(alloc, &order, &lists, &kept)?;
-        let lists = kept_lists(alloc, &lists, &kept)?;
-        Ok(SourceLists { lists, order })
+        self.keeping(alloc, Keeping::Filtered(filter))
     }
 
-    /// The samples with a frame at which a stack may begin, in the order in which they came.
-    fn with_frame(self, alloc: Global, from: &Option<Text>) -> Result<SourceLists, AllocError>
+    /// Some of the samples, in the order in which they came.
+    fn keeping(self, alloc: Global, keeping: Keeping<'_>) -> Result<SourceLists, AllocError>
         ensures { IfOk result (λ left. map seen_as_rest left.lists
-            ≡ map (passing_rest (list_any (begins from.now))) (map seen_as_rest self.lists)) }
+            ≡ map (passing_rest (passes keeping.entry)) (map seen_as_rest self.lists)) }
     {
         let SourceLists { lists, order } = self;
-        let kept = all_stacks_with(alloc, &lists, from)?;
+        let kept = all_kept_stacks(alloc, &lists, keeping)?;
         let order = kept_order(alloc, &order, &lists, &kept)?;
         let lists = kept_lists(alloc, &lists, &kept)?;
         Ok(SourceLists { lists, order })
@@ -128,7 +122,8 @@ impl SourceLists {
             IsInterleaving left.order (samples_of left.lists)) }
     {
         if from.is_some() {
-            self.with_frame(alloc, from)?.cut(alloc, from, omitted)
+            self.keeping(alloc, Keeping::Begun(from))?
+                .cut(alloc, from, omitted)
         } else if omitted.get().is_empty() {
             Ok(self)
         } else {

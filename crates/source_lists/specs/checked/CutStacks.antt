@@ -1,22 +1,13 @@
 -- Stacks that are cut, and of which frames are left out, by the marks of their names.
-use Rattle.std.specs.Prelude.{ℕ, Bool, true, List, [], ◌∷◌, Option, None, Some, if◌then◌else◌, map, not}
-use Rattle.std.specs.List.{filter, list_any}
-use Rattle.std.specs.Str.{bytes_eq}
+use Rattle.std.specs.Prelude.{ℕ, Bool, List, [], ◌∷◌, Option, None, Some, if◌then◌else◌, map, not}
+use Rattle.std.specs.List.{filter}
 use Rattle.sample_tables.specs.declared.samples.Sample.{Sample}
 use Rattle.stack_core.specs.Reading.{Rest}
 use Rattle.source_lists.specs.FromNames.{stack_from}
 use Rattle.source_lists.specs.OmittedNames.{stack_without}
-use Rattle.source_lists.specs.checked.KeptStacks.{is_marked}
+use Rattle.source_lists.specs.checked.NameMarks.{is_marked}
 
--- a stack may begin at a frame of this name: at each where none is given
-abbrev pub begins : Option (List ℕ) → List ℕ → Bool
-begins None frame = true
-begins (Some name) frame = bytes_eq frame name
-
-abbrev pub is_among : List (List ℕ) → List ℕ → Bool
-is_among names frame = list_any (λ name. bytes_eq frame name) names
-
--- the stack from its first such frame on, without the frames of the names that are left out
+-- the stack from its first frame on at which it may begin, without the frames of the names that are left out
 abbrev pub begun_stack : Option (List ℕ) → List (List ℕ) → List (List ℕ)
 begun_stack None stack = stack
 begun_stack (Some name) stack = stack_from name stack

@@ -1,16 +1,24 @@
 -- Which stacks of a list are kept.
-use Rattle.std.specs.Prelude.{ℕ, Bool, false, List, [], ◌∷◌, None, map, slice_index_or}
-use Rattle.std.specs.List.{filter}
+use Rattle.std.specs.Prelude.{ℕ, Bool, ◌||◌, ◌&&◌, List, [], None, map, not}
+use Rattle.std.specs.List.{filter, list_any}
 use Rattle.sample_tables.specs.Rows.{name_at}
 use Rattle.sample_tables.specs.declared.samples.Sample.{Sample}
 use Rattle.stack_core.specs.Ledgers.{LedgerState, ListState}
 use Rattle.stack_core.specs.Reading.{Rest}
-use Rattle.run_options.specs.Filters.{has_match, keeps}
-use Rattle.run_options.specs.declared.filters.Filter.{Filter}
+use Rattle.run_options.specs.Filters.{keeps}
+use Rattle.source_lists.specs.declared.kept_stacks.Keeping.{Keeping}
+use Rattle.source_lists.specs.declared.kept_stacks.Keeping.TheVariants.{Begun, Filtered}
+use Rattle.source_lists.specs.checked.NameMarks.{begins, is_marked}
 
--- for each name whether one of the texts is in it
-abbrev pub are_matched : List (List ℕ) → List (List ℕ) → List Bool
-are_matched texts names = map (λ name. has_match texts (name ∷ [])) names
+-- the stacks that are kept
+abbrev pub passes : Keeping → List (List ℕ) → Bool
+passes (Filtered asked) stack = keeps asked.now stack
+passes (Begun from) stack = list_any (begins from.now) stack
+
+-- a stack is kept by the marks of its numbers
+abbrev pub keeps_marked : Bool → List Bool → List Bool → List ℕ → Bool
+keeps_marked has_focus focus hide numbers =
+    (not has_focus || list_any (is_marked focus) numbers) && not (list_any (is_marked hide) numbers)
 
 -- for each stack of the list whether it passes
 abbrev pub are_passing : (List (List ℕ) → Bool) → ListState → List Bool
@@ -25,17 +33,6 @@ passing_samples passes samples = filter (λ sample. passes sample.stack) samples
 
 abbrev pub passing_rest : (List (List ℕ) → Bool) → Rest → Rest
 passing_rest passes rest = record { samples = passing_samples passes rest.samples; ending = rest.ending }
-
--- the stacks that a filter keeps
-abbrev pub are_kept : Filter → ListState → List Bool
-are_kept asked list = are_passing (keeps asked) list
-
-abbrev pub all_are_kept : Filter → List ListState → List (List Bool)
-all_are_kept asked lists = all_are_passing (keeps asked) lists
-
--- the mark of this number is set
-abbrev pub is_marked : List Bool → ℕ → Bool
-is_marked marks number = slice_index_or marks number false
 
 -- a ledger that has names and stacks, and nothing else
 abbrev pub begun : List (List ℕ) → List (List ℕ) → LedgerState

@@ -1,30 +1,20 @@
 use Rattle.std.proofs.Common.{◌∙◌, ◌<◌, ◌++◌, ◌∷◌, [], ap, arith, length, map, sym, take}
-use Rattle.std.proofs.lemmas.Result.{IfOk-from_err}
 use Rattle.std.proofs.lemmas.List.{map_push, take_all, take_more}
-use Rattle.source_lists.specs.checked.KeptStacks.{all_are_kept, are_kept}
+use Rattle.source_lists.specs.checked.KeptStacks.{all_are_passing, are_passing, passes}
 use Rattle.source_lists.proofs.kept_stacks.all_kept_stacks.Goals as goal
-
-pub returns-in_err-kept : goal.returns-in_err-kept
-returns-in_err-kept c = IfOk-from_err c.from_residual.result _ c.from_residual.ensures.0
-
-pub returns-in_err-kept_stacks : goal.returns-in_err-kept_stacks
-returns-in_err-kept_stacks c = IfOk-from_err c.from_residual-in_err-kept_stacks.result _ c.from_residual-in_err-kept_stacks.ensures.0
-
-pub returns-in_err-push : goal.returns-in_err-push
-returns-in_err-push c = IfOk-from_err c.from_residual-in_err-push.result _ c.from_residual-in_err-push.ensures.0
 
 pub loop-list-preserved : goal.loop-list-preserved
 loop-list-preserved c =
     let lists = c.args.lists.now in
     let n = c.loop-list.list-index in
     let list = c.list-item.result in
-    let asked = c.args.filter.now in
+    let kept = passes c.args.keeping in
     let within : n < length lists = omega arith in
     let one_more = take_more lists n list within ∙ ap (λ last. take n lists ++ last ∷ []) (sym c.list-item.is) in
     ap (map (λ marks. marks.items)) c.in_ok-push.ensures.items
     ∙ (map_push (λ marks. marks.items) c.loop-list.kept.items _
-    ∙ ((λ i. c.loop-list.invariant i ++ c.in_ok-kept_stacks.ensures i ∷ []) ∙ (sym (map_push (are_kept asked) (take n lists) list) ∙ ap (all_are_kept asked) (sym one_more))))
+    ∙ ((λ i. c.loop-list.invariant i ++ c.in_ok-kept_stacks.ensures i ∷ []) ∙ (sym (map_push (are_passing kept) (take n lists) list) ∙ ap (all_are_passing kept) (sym one_more))))
 
 pub returns : goal.returns
 returns c =
-    c.loop-list.invariant ∙ ap (all_are_kept c.args.filter.now) (take_all c.loop-list.list-index c.args.lists.now (omega arith))
+    c.loop-list.invariant ∙ ap (all_are_passing (passes c.args.keeping)) (take_all c.loop-list.list-index c.args.lists.now (omega arith))

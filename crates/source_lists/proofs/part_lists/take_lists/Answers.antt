@@ -1,5 +1,4 @@
 use Rattle.std.proofs.Common.{◌∙◌, ◌++◌, List, ap, map, sym}
-use Rattle.std.proofs.lemmas.Result.{IfOk-from_err}
 use Rattle.std.proofs.lemmas.List.{map_push}
 use Rattle.sample_tables.specs.declared.samples.Sample.{Sample}
 use Rattle.stack_core.specs.Ledgers.{ListState}
@@ -7,12 +6,6 @@ use Rattle.stack_core.specs.Parts.{samples_of_parts}
 use Rattle.ring_collect.specs.Collection.{seen_as_rest}
 use Rattle.source_lists.proofs.PartLemmas.{samples_more}
 use Rattle.source_lists.proofs.part_lists.take_lists.Goals as goal
-
-pub returns-in_err-take_list-clause-open : goal.returns-in_err-take_list-clause-open
-returns-in_err-take_list-clause-open c = IfOk-from_err c.from_residual.result _ c.from_residual.ensures.0
-
-pub returns-in_err-take_list-clause-samples : goal.returns-in_err-take_list-clause-samples
-returns-in_err-take_list-clause-samples c = IfOk-from_err c.from_residual.result _ c.from_residual.ensures.0
 
 pub loop-list-preserved : goal.loop-list-preserved
 loop-list-preserved c =

@@ -19,8 +19,8 @@ collect_rows-requires-send-R g c = search (sendable, folded_send, pprof_send) de
 pub collect_rows-requires-clause-possible : goal.collect_rows-requires-clause-possible
 collect_rows-requires-clause-possible g c = λ κs within. λ source one below. record { rest = reader_rest (get_or c.args.readers.items source one); is_given = refl }
 
-pub returns-clause-reads : goal.returns-clause-reads
-returns-clause-reads g c =
+pub returns : goal.returns
+returns g c =
     let readers = c.args.readers.items in
     let stops = g.G.Gate.may_stop (arc_value c.args.gate) in
     let goes = g.G.Gate.may_go (arc_value c.args.gate) in
@@ -28,16 +28,9 @@ returns-clause-reads g c =
     let taken' = g.S.RowSink.taken c.collect_rows.new.sink in
     let rests = map reader_rest readers in
     let answer = known_such (λ reader rest. rest ≡ reader_rest reader) reader_rest (λ reader other is. is) readers (λ rests. AnswersRun stops goes rests taken taken' c.collect_rows.result) c.collect_rows.ensures.answer in
-    IfOk-weaker c.collect_rows.result (λ run. CollectsRun stops goes rests taken taken' run.lists.items run.order.items) (λ run. ReadsLists stops goes rests run.lists.items run.order.items)
-    (λ run collects. record { collected = collects.lists; whole = collects.whole; ordered = collects.order }) answer.run
-
-pub returns-clause-err : goal.returns-clause-err
-returns-clause-err g c =
-    let readers = c.args.readers.items in
-    let stops = g.G.Gate.may_stop (arc_value c.args.gate) in
-    let goes = g.G.Gate.may_go (arc_value c.args.gate) in
-    let taken = g.S.RowSink.taken c.args.sink.now in
-    let taken' = g.S.RowSink.taken c.collect_rows.new.sink in
-    let rests = map reader_rest readers in
-    let answer = known_such (λ reader rest. rest ≡ reader_rest reader) reader_rest (λ reader other is. is) readers (λ rests. AnswersRun stops goes rests taken taken' c.collect_rows.result) c.collect_rows.ensures.answer in
-    blamed c.collect_rows.result _ (λ source fault. subst (λ count. source < count) (length-map readers reader_rest) (answer.unfinished source fault).below)
+    record {
+      reads = IfOk-weaker c.collect_rows.result (λ run. CollectsRun stops goes rests taken taken' run.lists.items run.order.items) (λ run. ReadsLists stops goes rests run.lists.items run.order.items)
+          (λ run collects. record { collected = collects.lists; whole = collects.whole; ordered = collects.order }) answer.run;
+      err = blamed c.collect_rows.result _ (λ source fault. subst (λ count. source < count) (length-map readers reader_rest) (answer.unfinished source fault).below);
+      setting = c.collect_rows.ensures.setting;
+    }

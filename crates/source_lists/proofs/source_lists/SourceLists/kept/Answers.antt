@@ -1,33 +1,8 @@
-use Rattle.std.proofs.Common.{◌∙◌, List, ap, map, subst, sym}
-use Rattle.sample_tables.specs.declared.samples.Sample.{Sample}
-use Rattle.stack_core.specs.Interleaving.{IsInterleaving}
-use Rattle.stack_core.specs.Ledgers.{ListState}
-use Rattle.merged_stacks.specs.Timeline.{samples_of}
+use Rattle.std.proofs.Common.{◌∙◌, map, sym}
 use Rattle.ring_collect.specs.Collection.{seen_as_rest}
-use Rattle.run_options.specs.Filters.{keeps, kept_rest, kept_samples}
-use Rattle.source_lists.specs.checked.KeptStacks.{all_are_kept}
-use Rattle.source_lists.proofs.KeptLemmas.{kept_everything, limited_kept_lists, samples_kept}
+use Rattle.source_lists.proofs.KeptLemmas.{kept_everything}
 use Rattle.source_lists.proofs.source_lists.SourceLists.kept.Goals as goal
 
 pub returns-then-is_everything : goal.returns-then-is_everything
 returns-then-is_everything c =
     kept_everything c.args.filter.now (sym c.is_everything.ensures ∙ c.if-is_everything.true) (map seen_as_rest c.args.self.lists)
-
-pub invariant_of-result : goal.invariant_of-result
-invariant_of-result c =
-    let asked = c.args.filter.now in
-    let lists : List ListState = c.self.inside.lists.items in
-    let left = c.in_ok-lists.lists.items in
-    let order = c.in_ok-order.order.items in
-    let flags = c.in_ok-kept.ensures ∙ ap (all_are_kept asked) c.deref.ensures.value in
-    let of_lists =
-    c.in_ok-lists.ensures (keeps asked) (ap (map (λ marks. marks.items)) c.deref-6.ensures.value ∙ (flags ∙ ap (all_are_kept asked) (sym c.deref-5.ensures.value)))
-    ∙ ap (λ (lists : List ListState). map (kept_rest asked) (map seen_as_rest lists)) c.deref-5.ensures.value in
-    let of_order =
-    c.in_ok-order.ensures (keeps asked) (ap (map (λ marks. marks.items)) c.deref-4.ensures.value ∙ (flags ∙ ap (all_are_kept asked) (sym c.deref-3.ensures.value))) in
-    record {
-      limits = limited_kept_lists (keeps asked) lists left of_lists c.self.invariant.limits;
-      ordered =
-          subst (λ (samples : List (List Sample)). IsInterleaving order samples) (samples_kept (keeps asked) lists left of_lists)
-          (subst (λ (lists : List ListState). IsInterleaving order (map (kept_samples asked) (samples_of lists))) c.deref-3.ensures.value of_order);
-    }

@@ -6,13 +6,13 @@ use Rattle.source_lists.proofs.CutLemmas.{shown_cut, shown_staged, shown_unchang
 use Rattle.source_lists.proofs.KeptLemmas.{none_shown}
 use Rattle.source_lists.proofs.source_lists.SourceLists.shown.Goals as goal
 
-pub returns-in_ok-with_frame-clause-lists : goal.returns-in_ok-with_frame-clause-lists
-returns-in_ok-with_frame-clause-lists c =
+pub returns-in_ok-keeping-clause-lists : goal.returns-in_ok-keeping-clause-lists
+returns-in_ok-keeping-clause-lists c =
     let from = c.args.from.now in
     let omitted = c.args.omitted.now in
     let given = sym c.is_some.ensures ∙ c.if-is_some.true in
     IfOk-weaker c.cut.result _ (λ left. map seen_as_rest left.lists ≡ shown_rests from omitted (map seen_as_rest c.args.self.lists))
-    (λ left cut. shown_staged from omitted c.args.self.lists c.in_ok-with_frame.field-0.lists left.lists given c.in_ok-with_frame.ensures cut) c.cut.ensures
+    (λ left cut. shown_staged from omitted c.args.self.lists c.in_ok-keeping.field-0.lists left.lists given c.in_ok-keeping.ensures cut) c.cut.ensures
 
 pub returns-then-is_empty-clause-lists : goal.returns-then-is_empty-clause-lists
 returns-then-is_empty-clause-lists c =

@@ -1,6 +1,3 @@
-use Rattle.std.proofs.Common.{subst}
-use Rattle.stack_core.specs.RowReading.{StepsAmong}
-use Rattle.stack_core.specs.declared.readers.RowStep.{RowStep}
 use Rattle.source_lists.proofs.SummedLemmas.{few_new, given_last, left_out, left_possible, left_refused, named_new, on_err, passed_again, passed_new, rows_new, told_again}
 use Rattle.source_lists.proofs.summed_rows.SummedRows.try_next.Goals as goal
 
@@ -12,9 +9,7 @@ returns-in_err-names-clause-refused g c =
     on_err c.from_residual.result _ (left_refused (r.gives old.reader) (r.gives new) (r.told old.reader) (r.told new) old.sums.items c.in_err-names.ensures.refused c.in_err-names.ensures.names c.in_err-names.ensures.stacks old.numbers old.rows)
 
 pub returns-in_err-names-clause-possible : goal.returns-in_err-names-clause-possible
-returns-in_err-names-clause-possible g c =
-    let r = g.R.RowReader in
-    left_possible (r.gives c.next_row.new.self) (r.told c.next_row.new.self) c.args.self.now.sums.items c.next_row.ensures.possible
+returns-in_err-names-clause-possible g c = left_possible _ _ _ c.next_row.ensures.possible
 
 pub invariant_of-self-in-New-1 : goal.invariant_of-self-in-New-1
 invariant_of-self-in-New-1 g c =
@@ -38,9 +33,7 @@ returns-in-New-clause-passes g c =
     (rw c.in-New.is at c.in_ok-names.ensures.step)
 
 pub returns-in-New-clause-possible : goal.returns-in-New-clause-possible
-returns-in-New-clause-possible g c =
-    let r = g.R.RowReader in
-    left_possible (r.gives c.next_row.new.self) (r.told c.next_row.new.self) c.args.self.now.sums.items c.next_row.ensures.possible
+returns-in-New-clause-possible g c = left_possible _ _ _ c.next_row.ensures.possible
 
 pub returns-then-keep-clause-passes : goal.returns-then-keep-clause-passes
 returns-then-keep-clause-passes g c =
@@ -55,9 +48,7 @@ returns-then-keep-clause-passes g c =
     )
 
 pub returns-then-keep-clause-possible : goal.returns-then-keep-clause-possible
-returns-then-keep-clause-possible g c =
-    let r = g.R.RowReader in
-    left_possible (r.gives c.next_row.new.self) (r.told c.next_row.new.self) c.keep.new.sums.items c.next_row.ensures.possible
+returns-then-keep-clause-possible g c = left_possible _ _ _ c.next_row.ensures.possible
 
 pub returns-else-keep-clause-passes : goal.returns-else-keep-clause-passes
 returns-else-keep-clause-passes g c =
@@ -68,9 +59,7 @@ returns-else-keep-clause-passes g c =
     (rw c.in-Again.is at c.in_ok-names.ensures.step)
 
 pub returns-else-keep-clause-possible : goal.returns-else-keep-clause-possible
-returns-else-keep-clause-possible g c =
-    let r = g.R.RowReader in
-    left_possible (r.gives c.next_row.new.self) (r.told c.next_row.new.self) c.keep.new.sums.items c.next_row.ensures.possible
+returns-else-keep-clause-possible g c = left_possible _ _ _ c.next_row.ensures.possible
 
 pub returns-in-End-clause-passes : goal.returns-in-End-clause-passes
 returns-in-End-clause-passes g c =
@@ -81,6 +70,4 @@ returns-in-End-clause-passes g c =
     (rw c.in-End.is at c.in_ok-names.ensures.step)
 
 pub returns-in-End-clause-possible : goal.returns-in-End-clause-possible
-returns-in-End-clause-possible g c =
-    let r = g.R.RowReader in
-    left_possible (r.gives c.next_row.new.self) (r.told c.next_row.new.self) c.last_step.new.sums.items c.next_row.ensures.possible
+returns-in-End-clause-possible g c = left_possible _ _ _ c.next_row.ensures.possible

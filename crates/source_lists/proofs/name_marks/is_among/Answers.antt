@@ -1,8 +1,8 @@
 use Rattle.std.proofs.Common.{◌∙◌, ap}
 use Rattle.std.specs.Str.{bytes_eq}
-use Rattle.source_lists.specs.checked.CutStacks.{is_among}
-use Rattle.source_lists.proofs.CutLemmas.{any_named}
-use Rattle.source_lists.proofs.cut_stacks.is_among.Goals as goal
+use Rattle.source_lists.specs.checked.NameMarks.{is_among}
+use Rattle.source_lists.proofs.KeptLemmas.{any_named}
+use Rattle.source_lists.proofs.name_marks.is_among.Goals as goal
 
 pub returns : goal.returns
 returns c =
