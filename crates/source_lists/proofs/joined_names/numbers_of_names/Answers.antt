@@ -22,6 +22,3 @@ pub returns-clause-found : goal.returns-clause-found
 returns-clause-found c =
     let all = take_all c.loop-at.at c.args.list.now.told (omega (arith, c.told-count.ensures)) in
     subst (λ (names : List (List ℕ)). AreFound [] c.loop-at.ledger.told c.loop-at.numbers.items names) all c.loop-at.invariant.found
-
-pub returns-clause-tells : goal.returns-clause-tells
-returns-clause-tells c = c.loop-at.invariant.tells

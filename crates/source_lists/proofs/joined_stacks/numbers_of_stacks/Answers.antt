@@ -39,6 +39,3 @@ returns-clause-found c =
     let wanted = named_stacks list.told list.stacks in
     let all = take_all c.loop-at.at wanted (omega (arith, c.stack_count-count.ensures, length-map list.stacks (λ frames. map (name_at list.told) frames))) in
     subst (λ (items : List (List (List ℕ))). AreFound [] (named_stacks c.loop-at.ledger.told c.loop-at.ledger.stacks) c.loop-at.numbers.items items) all c.loop-at.invariant.found
-
-pub returns-clause-keeps : goal.returns-clause-keeps
-returns-clause-keeps c = c.loop-at.invariant.keeps

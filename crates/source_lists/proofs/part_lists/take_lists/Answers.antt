@@ -18,6 +18,3 @@ loop-list-preserved c =
           ∙ (ap (λ (samples : List Sample). samples ++ list.samples) c.loop-list.invariant.samples
           ∙ sym (ap samples_of_parts (map_push seen_as_rest c.loop-list.yielded list) ∙ samples_more before (seen_as_rest list)));
     }
-
-pub returns-clause-open : goal.returns-clause-open
-returns-clause-open c = c.loop-list.invariant.open_
