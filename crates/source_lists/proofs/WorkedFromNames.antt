@@ -5,13 +5,13 @@ use Rattle.stack_core.specs.Reading.{Rest}
 use Rattle.stack_core.specs.declared.endings.SourceEnd.TheVariants as ends
 use Rattle.source_lists.specs.FromNames.{rests_from, samples_from, stack_from}
 
-abbrev main : List ℕ
+abbrev pub main : List ℕ
 main = codes "main"
 
-abbrev parse : List ℕ
+abbrev pub parse : List ℕ
 parse = codes "parse"
 
-abbrev read : List ℕ
+abbrev pub read : List ℕ
 read = codes "read"
 
 in_the_middle : stack_from parse (main ∷ parse ∷ read ∷ []) ≡ parse ∷ read ∷ []

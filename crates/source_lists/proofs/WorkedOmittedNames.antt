@@ -3,15 +3,7 @@ use Rattle.std.proofs.Common.{◌≡◌, ℕ, refl, List, [], ◌∷◌, None, S
 use Rattle.stack_core.specs.Reading.{Rest}
 use Rattle.stack_core.specs.declared.endings.SourceEnd.TheVariants as ends
 use Rattle.source_lists.specs.OmittedNames.{shown_rests, stack_without}
-
-abbrev main : List ℕ
-main = codes "main"
-
-abbrev parse : List ℕ
-parse = codes "parse"
-
-abbrev read : List ℕ
-read = codes "read"
+use Rattle.source_lists.proofs.WorkedFromNames.{main, parse, read}
 
 in_the_middle : stack_without (parse ∷ []) (main ∷ parse ∷ read ∷ []) ≡ main ∷ read ∷ []
 in_the_middle = refl

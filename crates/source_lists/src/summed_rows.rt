@@ -82,6 +82,7 @@ impl<R: RowReader> SummedRows<R> {
     }
 
     /// What the reader gives next, or nothing where that is a sample which is left out; none is, unless some may be.
+    #[tactic(auto, using(crate::proofs::SummedLemmas::left_possible))]
     fn try_next(&mut self, alloc: Global, may_leave: bool) -> Result<Option<RowStep>, AllocError>
         ensures passes { IfOk result (λ found. PassesAmong
             (GivesLeft (R.gives self.old.reader) (R.told self.old.reader) self.old.sums.items)

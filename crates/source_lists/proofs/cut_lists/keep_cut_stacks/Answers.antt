@@ -12,23 +12,20 @@ shown_of_stack : (starts left_out : List Bool) (stack kept : List ℕ) (first : 
 shown_of_stack starts left_out stack kept first is begins =
     is ∙ ap (unmarked left_out) (take_all (length stack - first) (drop first stack) (omega (arith, length-drop first stack)) ∙ begins)
 
-pub keep-requires-clause-depth : goal.keep-requires-clause-depth
-keep-requires-clause-depth c =
+pub keep-requires : goal.keep-requires
+keep-requires c =
     let stack = c.stack-stack.result.now in
     let starts = c.args.starts.now in
     let left_out = c.args.left_out.now in
-    let is = shown_of_stack starts left_out stack c.deref.result.now c.first_marked-first.result (c.deref.ensures.value ∙ c.in_ok-unmarked.ensures) c.first_marked-first.ensures.first in
-    omega (arith, ap length is, numbers_shorter starts left_out stack, c.stack-stack.ensures.limit)
-
-pub keep-requires-clause-numbers : goal.keep-requires-clause-numbers
-keep-requires-clause-numbers c =
-    let stack = c.stack-stack.result.now in
-    let starts = c.args.starts.now in
-    let left_out = c.args.left_out.now in
-    let is = shown_of_stack starts left_out stack c.deref.result.now c.first_marked-first.result (c.deref.ensures.value ∙ c.in_ok-unmarked.ensures) c.first_marked-first.ensures.first in
-    let told = ap (λ (ledger : LedgerState). ledger.told) c.loop-number.invariant in
-    subst (λ (told : List (List ℕ)). All (λ k. k < length told) c.deref.result.now) (sym told)
-    (subst (λ (kept : List ℕ). All (λ k. k < length c.args.list.now.told) kept) (sym is) (all_shown_numbers (λ k. k < length c.args.list.now.told) starts left_out stack c.stack-stack.ensures.told))
+    let kept = c.deref.result.now in
+    let known : List (List ℕ) = c.args.list.now.told in
+    let is = shown_of_stack starts left_out stack kept c.first_marked-first.result (c.deref.ensures.value ∙ c.in_ok-unmarked.ensures) c.first_marked-first.ensures.first in
+    record {
+      «open» = ap (λ (ledger : LedgerState). ledger.close) c.loop-number.invariant;
+      depth = omega (arith, ap length is, numbers_shorter starts left_out stack, c.stack-stack.ensures.limit);
+      numbers = subst (λ (told : List (List ℕ)). All (λ k. k < length told) kept) (sym (ap (λ (ledger : LedgerState). ledger.told) c.loop-number.invariant))
+          (subst (λ (kept : List ℕ). All (λ k. k < length known) kept) (sym is) (all_shown_numbers (λ k. k < length known) starts left_out stack c.stack-stack.ensures.told));
+    }
 
 pub loop-number-preserved : goal.loop-number-preserved
 loop-number-preserved c =
@@ -44,8 +41,3 @@ loop-number-preserved c =
     c.in_ok-keep.ensures.ok
     ∙ ((λ i. keeping (c.loop-number.invariant i) (stack i))
     ∙ ap (begun list.told) (sym (map_push shown (take n list.stacks) (get_or list.stacks n [])) ∙ ap (map shown) (sym (take_more list.stacks n [] within))))
-
-pub returns : goal.returns
-returns c =
-    let list = c.args.list.now in
-    c.loop-number.invariant ∙ ap (λ stacks. begun list.told (map (shown_numbers c.args.starts.now c.args.left_out.now) stacks)) (take_all c.loop-number.number list.stacks (omega arith))
