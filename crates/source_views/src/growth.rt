@@ -1,17 +1,15 @@
 //! The functions whose share grew by more than a view allows.
-ghost use Rattle.std.specs.Prelude.{◌≡◌, ◌<◌, ◌^◌, IfOk, Some, length};
+ghost use Rattle.std.specs.Prelude.{◌≡◌, IfOk, length};
 ghost use Rattle.command_line.specs.Plans.{IsComparison};
-ghost use Rattle.merged_stacks.specs.Timeline.{samples_of, total_weight};
-ghost use Rattle.source_views.specs.Texts.{diff_growth, grown_over, growth_line, order_of};
+ghost use Rattle.merged_stacks.specs.Timeline.{samples_of};
+ghost use Rattle.source_views.specs.Texts.{diff_growth, growth_line};
 ghost use Rattle.stack_core.specs.Interleaving.{list_of};
-ghost use Rattle.function_sums.specs.GrownLine.{grown_line};
 
 use crate::change_texts::{order_of, wholes};
 use crate::functions::change_functions;
 use command_line::{DiffTable, View};
 use function_sums::{grown, grown_line};
 use source_lists::SourceLists;
-use stack_core::SourceList;
 use std::alloc::{AllocError, Global};
 
 /// The line on the functions whose share of own weight grew by more than the view's limit, if it has one. It is
@@ -39,43 +37,14 @@ fn diff_growth(alloc: Global, sources: &SourceLists, diff: DiffTable) -> Result<
         ≡ diff_growth diff (list_of (samples_of sources.now.lists) 0) (list_of (samples_of sources.now.lists) 1)) }
 {
     let lists = sources.lists();
-    growth_between(alloc, &lists[0], &lists[1], diff)
-}
-
-// The same of the changes from one list to another.
-fn growth_between(
-    alloc: Global,
-    before: &SourceList,
-    after: &SourceList,
-    diff: DiffTable,
-) -> Result<Vec<u8>, AllocError>
-    requires before { total_weight before.now.samples < 2 ^ 64 }
-    requires after { total_weight after.now.samples < 2 ^ 64 }
-    ensures { IfOk result (λ line.
-        line.items ≡ diff_growth diff before.now.samples after.now.samples) }
-{
+    let (before, after) = (&lists[0], &lists[1]);
     match diff.fail_over {
-        Some(points) => grown_over(alloc, before, after, diff, points),
+        Some(points) => {
+            let order = order_of(diff, before, after);
+            let changes = change_functions(alloc, before, after, order)?;
+            let names = grown(alloc, &changes, wholes(before, after), points)?;
+            grown_line(alloc, points, &names)
+        }
         None => Ok(Vec::new(alloc)),
     }
-}
-
-// The line on the functions whose share grew by more than so many hundredths from one list to another.
-fn grown_over(
-    alloc: Global,
-    before: &SourceList,
-    after: &SourceList,
-    diff: DiffTable,
-    points: u64,
-) -> Result<Vec<u8>, AllocError>
-    requires before { total_weight before.now.samples < 2 ^ 64 }
-    requires after { total_weight after.now.samples < 2 ^ 64 }
-    ensures { IfOk result (λ line. line.items ≡ grown_line points
-        (grown_over (Some points) (order_of diff before.now.samples after.now.samples)
-        before.now.samples after.now.samples)) }
-{
-    let order = order_of(diff, before, after);
-    let changes = change_functions(alloc, before, after, order)?;
-    let names = grown(alloc, &changes, wholes(before, after), points)?;
-    grown_line(alloc, points, &names)
 }

@@ -4,7 +4,6 @@
 
 mod call_texts;
 mod change_texts;
-mod comparison_pages;
 mod drawings;
 mod drawn_profiles;
 mod drawn_runs;
@@ -19,8 +18,8 @@ mod long_texts;
 mod messages;
 mod page_data;
 mod plain_pages;
+mod several_drawings;
 mod shown;
-mod snapshot_pages;
 mod snapshot_texts;
 mod source_files;
 mod view_set;
@@ -29,7 +28,6 @@ mod whole_run;
 mod workers;
 
 pub use call_texts::{send_calls, send_peek};
-pub use comparison_pages::send_comparison_page;
 pub use drawings::lend_chart;
 pub use endings::any_fault;
 pub use failures::Failure;
@@ -42,8 +40,8 @@ pub use messages::{
 };
 pub use page_data::{PageView, render_page_data};
 pub use plain_pages::{send_chart_page, send_graph_page, send_growing_page};
+pub use several_drawings::{send_comparison_page, send_snapshots_page};
 pub use shown::{Shown, merge_given};
-pub use snapshot_pages::send_snapshots_page;
 pub use source_files::{SOURCE_COUNT, load_sources, open_named};
 pub use view_set::Views;
 pub use view_text::{AskedText, render, send_view};

@@ -1,0 +1,18 @@
+use Rattle.std.proofs.Common.{◌∙◌, List, ap, codes, map, subst}
+use Rattle.page_texts.specs.Document.{document_text}
+use Rattle.page_texts.specs.Drawn.{drawing_of}
+use Rattle.page_texts.specs.Page.{Page, PageDrawing}
+use Rattle.source_views.specs.Failures.{Sends}
+use Rattle.source_views.specs.Pages.{heading_of, page_with}
+use Rattle.source_views.specs.checked.DrawnProfiles.{pair_list}
+use Rattle.source_views.proofs.PageDrawings.{profiles_drawn}
+use Rattle.source_views.proofs.several_drawings.send_comparison_page.Goals as goal
+
+pub returns-clause-sent : goal.returns-clause-sent
+returns-clause-sent g c =
+    let heading = c.args.heading.now in
+    let drawn = c.in_ok-drawn.drawn in
+    let drawings = profiles_drawn heading.least c.args.before.now.samples c.args.after.now.samples drawn.before drawn.after _ c.in_ok-drawn.ensures.before c.in_ok-drawn.ensures.after
+    (ap (map (drawing_of pair_list)) c.deref.ensures.value ∙ c.in_ok-drawings.ensures) in
+    subst (λ (page : Page). Sends (document_text page) (g.W.Outlet.contents c.args.out.now) (g.W.Outlet.contents c.send_whole_page.new.out) c.send_whole_page.result)
+    (c.page.ensures ∙ ap (λ (ds : List PageDrawing). page_with (heading_of heading) (codes "compare") ds) drawings) c.send_whole_page.ensures.sent
