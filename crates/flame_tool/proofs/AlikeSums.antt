@@ -1,15 +1,15 @@
 -- Samples that weigh alike have the same sums: list by list, and of all lists together.
-use Rattle.std.proofs.Common.{◌≡◌, ℕ, zero, suc, ◌+◌, ◌*◌, Bool, true, false, cond, List, [], ◌∷◌, sum_by, refl, sym, ap, ◌∙◌, arith}
+use Rattle.std.proofs.Common.{◌≡◌, ℕ, zero, suc, ◌*◌, Bool, true, false, cond, List, [], ◌∷◌, sum_by, refl, sym, ap, ◌∙◌, arith}
 use Rattle.std.specs.List.{AllZip}
 use Rattle.std.specs.Str.{bytes_eq}
 use Rattle.std.specs.Cmp.Lexicographic.{pointwise}
-use Rattle.std.proofs.lemmas.List.Sums.{sum_by-append}
 use Rattle.sample_tables.specs.declared.samples.Sample.{Sample}
 use Rattle.stack_core.specs.Interleaving.{list_of}
 use Rattle.merged_stacks.specs.Merged.{all_samples}
 use Rattle.merged_stacks.specs.Timeline.{Stack}
 use Rattle.flame_layout.proofs.Sums.{SameSums}
 use Rattle.source_lists.specs.Summing.{WeighAlike}
+use Rattle.source_lists.proofs.FoundRests.{alike_append}
 
 -- a stack that passes a test has the number 1
 as_number : (test : Stack → Bool) (sample : Sample) → cond (test sample.stack) 1 0 * sample.weight ≡ cond (test sample.stack) sample.weight 0
@@ -30,8 +30,7 @@ alike_all [] [] alike number = refl
 alike_all [] (list ∷ lists) alike number = absurd alike
 alike_all (one ∷ found) [] alike number = absurd alike
 alike_all (one ∷ found) (list ∷ lists) alike number =
-    let counted : Sample → ℕ = λ sample. number sample.stack * sample.weight in
-    sum_by-append counted one (all_samples found) ∙ (λ i. alike.0 number i + alike_all found lists alike.1 number i) ∙ sym (sum_by-append counted list (all_samples lists))
+    alike_append one list (all_samples found) (all_samples lists) alike.0 (alike_all found lists alike.1) number
 
 -- and at each place, also beyond the last
 pub alike_at : (found lists : List (List Sample)) → AllZip WeighAlike found lists → (at : ℕ) → WeighAlike (list_of found at) (list_of lists at)

@@ -1,6 +1,6 @@
 -- What a run drew, and what was told of the ends of its sources.
-use Rattle.std.proofs.Common.{◌≡◌, ◌≤◌, ◌∙◌, ◌++◌, ◌∷◌, [], ℕ, Bool, true, false, List, Option, Some, None, Result, Ok, Err, IfErr, IfOk, ap, length, map, refl, subst, sym}
-use Rattle.std.specs.Prelude.{if◌then◌else◌, is_some, slice_get}
+use Rattle.std.proofs.Common.{◌≡◌, ◌≤◌, ◌∙◌, ◌++◌, ◌∷◌, [], ℕ, Bool, true, false, List, Option, Some, ap, length, map, refl, subst, sym}
+use Rattle.std.specs.Prelude.{if◌then◌else◌, slice_get}
 use Rattle.std.proofs.lemmas.List.{length-map}
 use Rattle.std.proofs.lemmas.Option.{get_or_from_slice_get}
 use Rattle.sample_tables.specs.declared.samples.Sample.{Sample}
@@ -46,28 +46,19 @@ all_told rests taken lists order endings told told' none run are heard =
           ap (of_source source) all ∙ heard.no_other source (subst (λ n. n ≤ source) (sym count) past);
     }
 
-pub none_is : {A : Type 0} (found : Option A) → is_some found ≡ false → found ≡ None
-none_is None missing = refl
-none_is (Some x) missing = absurd (cc)
-
--- what holds of a result
-pub of_ok : {T E : Type 0} (result : Result T E) (value : T) (P : T → Type 0) → result ≡ Ok value → IfOk result P → P value
-of_ok result value P is holds = subst (λ result. IfOk result P) is holds
-
-pub of_err : {T E : Type 0} (result : Result T E) (error : E) (P : E → Type 0) → result ≡ Err error → IfErr result P → P error
-of_err result error P is holds = subst (λ result. IfErr result P) is holds
-
 -- ---- what was said, at once or at the end
 
 abbrev pub said_in_all : Bool → Plan → Bool → List ToldEnd → List EndOfSource → List ℕ
 said_in_all is_at_once plan is_lost told ends = if is_at_once then said_of_told plan told else said_of_ends plan is_lost ends
 
-pub tells_all : (is_at_once is_lost : Bool) (plan : Plan) (told : List ToldEnd) (ends : List EndOfSource) (old mid new : Option (List ℕ)) (before between after : ℕ) → Tells (said_at_once is_at_once plan told) old mid before between
-    → (is_at_once ≡ false → Tells (said_of_ends plan is_lost ends) mid new between after) → (is_at_once ≡ true → (new ≡ mid) × (after ≡ between)) → Tells (said_in_all is_at_once plan is_lost told ends) old new before after
-tells_all true is_lost plan told ends old mid new before between after first rest stays =
-    let same = stays refl in
-    subst (λ new. Tells (said_of_told plan told) old new before after) (sym same.0) (subst (λ after. Tells (said_of_told plan told) old mid before after) (sym same.1) first)
-tells_all false is_lost plan told ends old mid new before between after first rest stays = tells_more [] (said_of_ends plan is_lost ends) old mid new before between after first (rest refl)
+pub tells_all : {E : Type 0} (contents : E → Option (List ℕ)) (failures : E → ℕ) (is_at_once is_lost : Bool) (plan : Plan) (told : List ToldEnd) (ends : List EndOfSource) (old mid new : E)
+    → Tells (said_at_once is_at_once plan told) (contents old) (contents mid) (failures old) (failures mid)
+    → (is_at_once ≡ false → Tells (said_of_ends plan is_lost ends) (contents mid) (contents new) (failures mid) (failures new)) → (is_at_once ≡ true → new ≡ mid)
+    → Tells (said_in_all is_at_once plan is_lost told ends) (contents old) (contents new) (failures old) (failures new)
+tells_all contents failures true is_lost plan told ends old mid new first rest stays =
+    subst (λ new. Tells (said_of_told plan told) (contents old) (contents new) (failures old) (failures new)) (sym (stays refl)) first
+tells_all contents failures false is_lost plan told ends old mid new first rest stays =
+    tells_more [] (said_of_ends plan is_lost ends) (contents old) (contents mid) (contents new) (failures old) (failures mid) (failures new) first (rest refl)
 
 pub says_lost : (plan : Plan) (is_at_once is_lost : Bool) (rests : List Rest) (lists : List ListState) (told : List ToldEnd) (ends : List EndOfSource) (Says : List ℕ → Type 0) → Collects anywhere anywhere rests lists → AreTold lists told → ends ≡ map end_of lists
     → Says (said_in_all is_at_once plan is_lost told ends) → SaysLost plan Says rests

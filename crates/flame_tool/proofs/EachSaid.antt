@@ -95,12 +95,6 @@ both_at R (x ∷ xs) [] zipped at = absurd zipped
 both_at R (x ∷ xs) (y ∷ ys) zipped zero = zipped.0
 both_at R (x ∷ xs) (y ∷ ys) zipped (suc at) = both_at R xs ys zipped.1 at
 
-pub as_many_zipped : {A B : Type 0} (R : A → B → Type 0) (xs : List A) (ys : List B) → AllZip R xs ys → length xs ≡ length ys
-as_many_zipped R [] [] zipped = refl
-as_many_zipped R [] (y ∷ ys) zipped = absurd zipped
-as_many_zipped R (x ∷ xs) [] zipped = absurd zipped
-as_many_zipped R (x ∷ xs) (y ∷ ys) zipped = ap suc (as_many_zipped R xs ys zipped.1)
-
 -- of which the same is said, place by place
 pub said_alike : {A B : Type 0} (say : ℕ → A → List ℕ) (say' : ℕ → B → List ℕ) (xs : List A) (ys : List B) (said : List ℕ) → length xs ≡ length ys → ((at : ℕ) → said_at say xs at ≡ said_at say' ys at)
     → IsSaidOfEach say xs said → IsSaidOfEach say' ys said

@@ -1,72 +1,47 @@
 -- What an exit status says of a run that showed what was asked for, or failed.
-use Rattle.std.proofs.Common.{◌≡◌, ◌≢◌, ◌≤◌, ◌⊎◌, ℕ, Bool, true, false, List, Option, Result, Ok, Err, IfSome, IfErr, IfOk, OnOk, ap, inl, inr, refl, arith}
+use Rattle.std.proofs.Common.{◌≡◌, ◌≢◌, ◌≤◌, ◌⊎◌, ℕ, Bool, true, false, List, Option, Result, Ok, Err, IfErr, IfOk, OnOk, ap, inl, inr, refl, arith}
 use Rattle.std.specs.Prelude.{IsErrOf}
 use Rattle.std.specs.Io.KnownBytes.{Keeps}
-use Rattle.run_options.specs.declared.formats.Format.{Format}
-use Rattle.command_line.specs.declared.plans.Plan.{Plan}
+use Rattle.byte_io.specs.declared.piece_output.PieceFault.{PieceFault}
 use Rattle.flame_tool.specs.KnownRuns.{Succeeds}
-use Rattle.flame_tool.specs.Runs.{ShowsFront}
-use Rattle.flame_tool.specs.StrictRuns.{HasPlainFault}
-use Rattle.flame_tool.specs.TypeRuns.{HasTableFault, ShowsTypesFront}
-use Rattle.flame_tool.specs.checked.Failures.{Fails, KeepsOutput, exit_status}
-use Rattle.flame_tool.specs.checked.TypeFailures.{FailsTypes}
-use Rattle.flame_tool.proofs.RunEndings.{failed_faulty, failed_front}
-use Rattle.flame_tool.proofs.TypeEndings.{types_faulty, types_front}
+use Rattle.flame_tool.specs.Runs.{FailsUntouched}
+use Rattle.flame_tool.specs.checked.Failures.{KeepsOutput, exit_status}
 use Rattle.source_views.specs.Failures.{CountsFailure, Flushes, status_of}
 use Rattle.source_views.specs.declared.failures.Failure.{Failure}
 use Rattle.source_views.specs.declared.failures.Failure.TheVariants.{TooManyFiles, Unreadable, TooLarge, OutOfMemory, NoThread, Unfinished, Faults, Output}
 
 -- ---- of any failure
 
-pub not_zero : (failure : Failure) → status_of failure ≡ 0 → ⊥
-not_zero TooManyFiles zero = omega arith
-not_zero (Unreadable source) zero = omega arith
-not_zero (TooLarge source) zero = omega arith
-not_zero OutOfMemory zero = omega arith
-not_zero NoThread zero = omega arith
-not_zero (Unfinished source) zero = omega arith
-not_zero Faults zero = omega arith
-not_zero (Output fault) zero = omega arith
+-- its status is one of three
+of_statuses : (P : ℕ → Type 0) → P 1 → P 2 → P 3 → (failure : Failure) → P (status_of failure)
+of_statuses P one two three TooManyFiles = two
+of_statuses P one two three (Unreadable source) = three
+of_statuses P one two three (TooLarge source) = three
+of_statuses P one two three OutOfMemory = three
+of_statuses P one two three NoThread = three
+of_statuses P one two three (Unfinished source) = three
+of_statuses P one two three Faults = one
+of_statuses P one two three (Output fault) = three
+
+not_zero : (failure : Failure) → status_of failure ≢ 0
+not_zero failure = of_statuses (λ status. status ≢ 0) (λ zero. omega (arith, zero)) (λ zero. omega (arith, zero)) (λ zero. omega (arith, zero)) failure
 
 at_most_three : (failure : Failure) → status_of failure ≤ 3
-at_most_three TooManyFiles = omega arith
-at_most_three (Unreadable source) = omega arith
-at_most_three (TooLarge source) = omega arith
-at_most_three OutOfMemory = omega arith
-at_most_three NoThread = omega arith
-at_most_three (Unfinished source) = omega arith
-at_most_three Faults = omega arith
-at_most_three (Output fault) = omega arith
+at_most_three failure = of_statuses (λ status. status ≤ 3) (omega arith) (omega arith) (omega arith) failure
 
-kept_output : (old new : Option (List ℕ)) (failure : Failure) → status_of failure ≢ 3 → KeepsOutput old new failure → Keeps old new
-kept_output old new TooManyFiles other kept = kept
-kept_output old new (Unreadable source) other kept = kept
-kept_output old new (TooLarge source) other kept = kept
-kept_output old new OutOfMemory other kept = kept
-kept_output old new NoThread other kept = kept
-kept_output old new (Unfinished source) other kept = kept
-kept_output old new Faults other kept = kept
-kept_output old new (Output fault) other kept = absurd (other refl)
+-- two of them have another status than 3
+pub of_others : (P : Failure → Type 0) → P TooManyFiles → P Faults → (failure : Failure) → status_of failure ≢ 3 → P failure
+of_others P many faulty TooManyFiles other = many
+of_others P many faulty (Unreadable source) other = absurd (other refl)
+of_others P many faulty (TooLarge source) other = absurd (other refl)
+of_others P many faulty OutOfMemory other = absurd (other refl)
+of_others P many faulty NoThread other = absurd (other refl)
+of_others P many faulty (Unfinished source) other = absurd (other refl)
+of_others P many faulty Faults other = faulty
+of_others P many faulty (Output fault) other = absurd (other refl)
 
-counted : (old new : ℕ) (failure : Failure) → status_of failure ≢ 3 → CountsFailure old new failure → new ≡ old
-counted old new TooManyFiles other counts = counts
-counted old new (Unreadable source) other counts = counts
-counted old new (TooLarge source) other counts = counts
-counted old new OutOfMemory other counts = counts
-counted old new NoThread other counts = counts
-counted old new (Unfinished source) other counts = counts
-counted old new Faults other counts = counts
-counted old new (Output fault) other counts = absurd (other refl)
-
-only_many : {P : Type 0} (failure : Failure) → status_of failure ≡ 2 → (failure ≡ TooManyFiles → P) → P
-only_many TooManyFiles two many = many refl
-only_many (Unreadable source) two many = absurd (omega arith)
-only_many (TooLarge source) two many = absurd (omega arith)
-only_many OutOfMemory two many = absurd (omega arith)
-only_many NoThread two many = absurd (omega arith)
-only_many (Unfinished source) two many = absurd (omega arith)
-only_many Faults two many = absurd (omega arith)
-only_many (Output fault) two many = absurd (omega arith)
+pub only_many : (failure : Failure) → status_of failure ≡ 2 → failure ≡ TooManyFiles
+only_many failure two = of_others (λ failure. status_of failure ≡ 2 → failure ≡ TooManyFiles) (λ two. refl) (λ two. absurd (omega (arith, two))) failure (λ three. omega (arith, two, three)) two
 
 -- ---- of a run
 
@@ -99,7 +74,7 @@ flushed_at_success old new (Err failure) success flushes = no_success failure su
 pub many_at_two : {P : Type 0} (shown : Result Bool Failure) → exit_status shown ≡ 2 → (IsErrOf shown TooManyFiles → P) → P
 many_at_two (Ok true) two many = absurd (omega arith)
 many_at_two (Ok false) two many = absurd (omega arith)
-many_at_two (Err failure) two many = only_many failure two (λ is. many (ap Err is))
+many_at_two (Err failure) two many = many (ap Err (only_many failure two))
 
 pub few_but_at_two : {P : Type 0} (shown : Result Bool Failure) → exit_status shown ≢ 2 → (shown ≢ Err TooManyFiles → P) → P
 few_but_at_two shown other few = few (λ is. other (ap exit_status is))
@@ -107,34 +82,42 @@ few_but_at_two shown other few = few (λ is. other (ap exit_status is))
 pub kept_at : (old new : Option (List ℕ)) (status : ℕ) (shown : Result Bool Failure) → 1 ≤ status → status ≤ 2 → exit_status shown ≡ status → IfErr shown (KeepsOutput old new) → Keeps old new
 kept_at old new status (Ok true) low high is kept = absurd (omega (arith, is))
 kept_at old new status (Ok false) low high is kept = absurd (omega (arith, is))
-kept_at old new status (Err failure) low high is kept = kept_output old new failure (λ three. omega (arith, is, three, high)) kept
+kept_at old new status (Err failure) low high is kept =
+    of_others (λ failure. KeepsOutput old new failure → Keeps old new) (λ kept. kept) (λ kept. kept) failure (λ three. omega (arith, is, three, high)) kept
 
 pub unfailed_but_at_three : (P : Type 0) (old new : ℕ) (shown : Result Bool Failure) → exit_status shown ≢ 3 → Flushes P old new shown → new ≡ old
 unfailed_but_at_three P old new (Ok done) other flushes = flushes.1
-unfailed_but_at_three P old new (Err failure) other flushes = counted old new failure other flushes
+unfailed_but_at_three P old new (Err failure) other flushes = of_others (λ failure. CountsFailure old new failure → new ≡ old) (λ same. same) (λ same. same) failure other flushes
 
-pub faulty_at_one : (plan : Plan) (known : Option (List (Format × List ℕ))) (old new : Option (List ℕ)) (shown : Result Bool Failure)
-    → exit_status shown ≡ 1 → IfErr shown (λ failure. IfSome known (Fails plan old new failure)) → IfSome known (HasPlainFault plan)
-faulty_at_one plan known old new (Ok true) one fails = absurd (omega arith)
-faulty_at_one plan known old new (Ok false) one fails = absurd (omega arith)
-faulty_at_one plan known old new (Err failure) one fails = failed_faulty plan known old new failure one fails
+pub faulty_at_one : (Fails : Failure → Type 0) (shown : Result Bool Failure) → exit_status shown ≡ 1 → IfErr shown Fails → Fails Faults
+faulty_at_one Fails (Ok true) one fails = absurd (omega arith)
+faulty_at_one Fails (Ok false) one fails = absurd (omega arith)
+faulty_at_one Fails (Err failure) one fails =
+    of_others (λ failure. status_of failure ≡ 1 → Fails failure → Fails Faults) (λ one fails. absurd (omega (arith, one))) (λ one fails. fails) failure (λ three. omega (arith, one, three)) one fails
 
-pub front_at_three : (plan : Plan) (known : Option (List (Format × List ℕ))) (old new : Option (List ℕ)) (shown : Result Bool Failure)
-    → exit_status shown ≡ 3 → IfErr shown (KeepsOutput old new) → IfErr shown (λ failure. IfSome known (Fails plan old new failure))
-    → Keeps old new ⊎ IfSome known (ShowsFront plan old new)
-front_at_three plan known old new (Ok true) three kept fails = absurd (omega arith)
-front_at_three plan known old new (Ok false) three kept fails = absurd (omega arith)
-front_at_three plan known old new (Err failure) three kept fails = failed_front plan known old new failure three kept fails
+pub front_at_three : (Fails : Failure → Type 0) (Front : Type 0) (old new : Option (List ℕ)) → ((fault : PieceFault) → Fails (Output fault) → Front) → (shown : Result Bool Failure)
+    → exit_status shown ≡ 3 → IfErr shown (KeepsOutput old new) → IfErr shown Fails → Keeps old new ⊎ Front
+front_at_three Fails Front old new front (Ok true) three kept fails = absurd (omega arith)
+front_at_three Fails Front old new front (Ok false) three kept fails = absurd (omega arith)
+front_at_three Fails Front old new front (Err TooManyFiles) three kept fails = inl kept
+front_at_three Fails Front old new front (Err (Unreadable source)) three kept fails = inl kept
+front_at_three Fails Front old new front (Err (TooLarge source)) three kept fails = inl kept
+front_at_three Fails Front old new front (Err OutOfMemory) three kept fails = inl kept
+front_at_three Fails Front old new front (Err NoThread) three kept fails = inl kept
+front_at_three Fails Front old new front (Err (Unfinished source)) three kept fails = inl kept
+front_at_three Fails Front old new front (Err Faults) three kept fails = inl kept
+front_at_three Fails Front old new front (Err (Output fault)) three kept fails = inr (front fault fails)
 
-pub types_faulty_at_one : (P : Type 0) (known : Option (List ℕ)) (old new : Option (List ℕ)) (shown : Result Bool Failure)
-    → exit_status shown ≡ 1 → IfErr shown (λ failure. P → IfSome known (FailsTypes old new failure)) → P → IfSome known HasTableFault
-types_faulty_at_one P known old new (Ok true) one fails = absurd (omega arith)
-types_faulty_at_one P known old new (Ok false) one fails = absurd (omega arith)
-types_faulty_at_one P known old new (Err failure) one fails = types_faulty P known old new failure one fails
-
-pub types_front_at_three : (P : Type 0) (known : Option (List ℕ)) (old new : Option (List ℕ)) (shown : Result Bool Failure)
-    → exit_status shown ≡ 3 → IfErr shown (KeepsOutput old new) → IfErr shown (λ failure. P → IfSome known (FailsTypes old new failure))
-    → Keeps old new ⊎ (P → IfSome known (ShowsTypesFront old new))
-types_front_at_three P known old new (Ok true) three kept fails = absurd (omega arith)
-types_front_at_three P known old new (Ok false) three kept fails = absurd (omega arith)
-types_front_at_three P known old new (Err failure) three kept fails = types_front P known old new failure three kept fails
+-- where it can't have shown anything nor failed in its output, it left that alone
+module _ (P Shows : Type 0) (Fails : Failure → Type 0) (old new : Option (List ℕ)) (before after : ℕ) where
+  pub untouched : (Shows → ⊥) → ((fault : PieceFault) → Fails (Output fault) → ⊥) → (shown : Result Bool Failure)
+      → OnOk shown Shows → IfErr shown Fails → IfErr shown (KeepsOutput old new) → Flushes P before after shown → FailsUntouched (exit_status shown) old new before after
+  untouched unshown unsent (Ok done) shows fails kept flushes = absurd (unshown shows)
+  untouched unshown unsent (Err TooManyFiles) shows fails kept flushes = (not_zero TooManyFiles, kept, flushes)
+  untouched unshown unsent (Err (Unreadable source)) shows fails kept flushes = (not_zero (Unreadable source), kept, flushes)
+  untouched unshown unsent (Err (TooLarge source)) shows fails kept flushes = (not_zero (TooLarge source), kept, flushes)
+  untouched unshown unsent (Err OutOfMemory) shows fails kept flushes = (not_zero OutOfMemory, kept, flushes)
+  untouched unshown unsent (Err NoThread) shows fails kept flushes = (not_zero NoThread, kept, flushes)
+  untouched unshown unsent (Err (Unfinished source)) shows fails kept flushes = (not_zero (Unfinished source), kept, flushes)
+  untouched unshown unsent (Err Faults) shows fails kept flushes = (not_zero Faults, kept, flushes)
+  untouched unshown unsent (Err (Output fault)) shows fails kept flushes = absurd (unsent fault fails)

@@ -1,8 +1,9 @@
 -- What was said of streams before a run failed, by their texts.
-use Rattle.std.proofs.Common.{◌≡◌, ◌≢◌, ◌≤◌, ◌<◌, ◌∙◌, ◌++◌, ℕ, Bool, true, false, List, [], ◌∷◌, Option, Some, None, IfSome, ap, arith, inl, inr, length, map, refl, subst, sym}
+use Rattle.std.proofs.Common.{◌≡◌, ◌≤◌, ◌∙◌, ◌++◌, ℕ, Bool, true, false, List, [], ◌∷◌, Option, Some, None, IfSome, ap, arith, inl, inr, length, map, refl, subst, sym}
+use Rattle.std.proofs.lemmas.Slice.Zip.{AllZip-long}
 use Rattle.std.specs.Prelude.{if◌then◌else◌, slice_get}
 use Rattle.std.specs.List.{AllZip, flat_map}
-use Rattle.std.proofs.lemmas.Bool.{cases_eq, cases_lt}
+use Rattle.std.proofs.lemmas.Bool.{cases_eq}
 use Rattle.std.proofs.lemmas.Option.{slice_get_cases}
 use Rattle.sample_tables.specs.declared.samples.Sample.{Sample}
 use Rattle.stack_core.specs.Interleaving.{count_of, of_source}
@@ -10,17 +11,16 @@ use Rattle.stack_core.specs.Ledgers.{ListState}
 use Rattle.stack_core.specs.Reading.{Rest}
 use Rattle.stack_core.proofs.InterleavingLemmas.{count_of_at, count_of_past}
 use Rattle.command_line.specs.declared.plans.Plan.{Plan}
-use Rattle.source_views.proofs.MessageTexts.{tells_nothing}
-use Rattle.source_views.specs.Messages.{Tells, message_of_failure}
+use Rattle.source_views.specs.Messages.{message_of_failure}
 use Rattle.source_views.specs.declared.failures.Failure.TheVariants.{Unreadable}
 use Rattle.ring_collect.specs.Collection.{EndOfSource, HearsFirst}
 use Rattle.live_lines.specs.Ends.{ToldEnd, heard_of_each}
 use Rattle.flame_tool.specs.ToldLive.{IsOfFirst, is_stopped, message_of_stream, said_at}
 use Rattle.flame_tool.specs.checked.EndReports.{said_at_once}
 use Rattle.flame_tool.specs.checked.LiveEnds.{anywhere}
-use Rattle.flame_tool.specs.checked.LiveSaying.{AreFirstTold, IsEndTold, SaidOfFirst, SaysFirst, SaysSuch, end_of, message_of_counted, message_of_list, said_of_told}
+use Rattle.flame_tool.specs.checked.LiveSaying.{AreFirstTold, SaidOfFirst, SaysFirst, message_of_counted, said_of_told}
 use Rattle.flame_tool.specs.checked.LiveStreams.{ReadsAs}
-use Rattle.flame_tool.proofs.EachSaid.{BothAt, as_many_zipped, both_at}
+use Rattle.flame_tool.proofs.EachSaid.{BothAt, both_at}
 use Rattle.flame_tool.proofs.LiveSaid.{said_by}
 use Rattle.flame_tool.proofs.LiveTexts.{SeenOf, seen}
 use Rattle.flame_tool.proofs.ToldEnds.{end_at, lost_at, often, order_of, said_as_list, said_by_source, seen_end, seen_held, seen_of, told_message}
@@ -107,7 +107,7 @@ module _ (plan : Plan) (texts : List (List ℕ)) (rests : List Rest) (told : Lis
       order = order_of told;
       some = record {
         once = λ at. subst (λ n. n ≤ 1) (sym (often at told)) (few at);
-        no_other = λ at past. often at told ∙ ap length (are.no_other at (subst (λ n. n ≤ at) (as_many_zipped (ReadsAs plan.is_strict) texts rests reads) past));
+        no_other = λ at past. often at told ∙ ap length (are.no_other at (subst (λ n. n ≤ at) (sym (AllZip-long (ReadsAs plan.is_strict) texts rests reads)) past));
       };
       is = said_by_source plan told few ∙ alike_in (λ at. told_message plan at (end_at told at)) (said_at (message_of_stream plan (lost_at told) is_cut) texts) (order_of told)
           (λ at some. said_there at (slice_get texts at) (slice_get rests at) refl (both_at (ReadsAs plan.is_strict) texts rests reads at) (subst (λ n. 1 ≤ n) (often at told) some));

@@ -1,5 +1,5 @@
 -- What was found of the sources of a plan: their samples, or others that weigh alike.
-use Rattle.std.proofs.Common.{◌≡◌, ◌||◌, ℕ, Bool, true, ap, refl, subst, sym, List, [], ◌∷◌, map, Option, None, Some, Result, Ok, Err, IfOk, IfSome}
+use Rattle.std.proofs.Common.{◌≡◌, ◌||◌, ℕ, Bool, false, true, ap, refl, subst, sym, List, [], ◌∷◌, map, Option, None, Some, Result, Ok, Err, IfOk, IfSome}
 use Rattle.std.specs.Prelude.{not, ◌&&◌}
 use Rattle.std.specs.List.{AllZip, list_any}
 use Rattle.stack_core.specs.Ledgers.{ListState}
@@ -8,7 +8,6 @@ use Rattle.merged_stacks.specs.Timeline.{samples_of}
 use Rattle.ring_collect.specs.Collection.{seen_as_rest}
 use Rattle.run_options.specs.declared.formats.Format.{Format}
 use Rattle.run_options.specs.declared.options.Options.{Options}
-use Rattle.source_lists.specs.Runs.{ReadsLists}
 use Rattle.source_lists.specs.Sources.{asked_rests}
 use Rattle.source_lists.specs.declared.reading.Run.{Run}
 use Rattle.source_lists.specs.declared.run_faults.RunFault.{RunFault}
@@ -44,9 +43,10 @@ found_strictly plan rests found strict each =
 
 -- what is read in order may be found of a plan that sums
 pub open_found : (is_summed : Bool) (options : Options) (known : Option (List (Format × List ℕ))) (result : Result Run RunFault)
-    → IfOk result (λ run. IfSome known (λ sources. ReadsLists (λ _ _. ⊥) (λ _ _. Unit {0}) (asked_rests options sources) run.kept.lists run.kept.order))
+    → IfOk result (λ run. IfSome known (λ sources. AllZip (IsFound false) (asked_rests options sources) (map seen_as_rest run.kept.lists)))
     → IfOk result (λ run. IfSome known (λ sources. AllZip (IsFound is_summed) (asked_rests options sources) (map seen_as_rest run.kept.lists)))
-open_found is_summed options known (Err fault) reads = tt
-open_found is_summed options None (Ok run) reads = tt
-open_found is_summed options (Some sources) (Ok run) reads =
-    subst (AllZip (IsFound is_summed) (asked_rests options sources)) (sym (reads.whole (λ source index stops. stops))) (found_self is_summed (asked_rests options sources))
+open_found is_summed options known (Err fault) each = tt
+open_found is_summed options None (Ok run) each = tt
+open_found is_summed options (Some sources) (Ok run) each =
+    let rests = asked_rests options sources in
+    subst (AllZip (IsFound is_summed) rests) (sym (found_same rests (map seen_as_rest run.kept.lists) each)) (found_self is_summed rests)

@@ -1,6 +1,6 @@
 -- What is collected of sources whose bytes are known, where no gate stops them, is what their bytes stand for.
 use Rattle.std.proofs.Common.{◌≡◌, ◌≢◌, ℕ, List, [], ◌∷◌, map, Option, Some, None, Result, Ok, Err, IfSome, IfErr, IfOk, OnOk, ap, sym, ◌∙◌, subst, refl, true, false, ◌||◌, All}
-use Rattle.std.proofs.lemmas.Bool.{true≢false, false≢true}
+use Rattle.std.proofs.lemmas.Bool.{false≢true, or_parts, true≢false}
 use Rattle.std.proofs.lemmas.List.Elements.{All-nil, All-cons, All-map}
 use Rattle.std.proofs.lemmas.List.Folds.{Any-from_list_any}
 use Rattle.std.specs.Prelude.{Bool, option_and_then, option_map, unwrap_or}
@@ -120,16 +120,12 @@ fault_ending (ends.Clean ignored) faulty = absurd (false≢true faulty)
 fault_ending (ends.Fault fault) faulty = tt
 fault_ending (ends.Stopped after) faulty = absurd (false≢true faulty)
 
-pub neither : (a b : Bool) → (a || b) ≡ false → (a ≡ false) × (b ≡ false)
-neither true b none = absurd (true≢false none)
-neither false b none = (refl, none)
-
 clean_rests : (options : Options) (sources : List (Format × List ℕ)) → list_any (λ (rest : Rest). ends_in_fault rest.ending) (asked_rests options sources) ≡ false
     → All (λ (rest : Rest). IsClean rest.ending) (asked_rests options sources)
 clean_rests options [] faultless = All-nil (λ (rest : Rest). IsClean rest.ending)
 clean_rests options (source ∷ sources) faultless =
     let rest = asked_rest options source.0 source.1 in
-    let both = neither (ends_in_fault rest.ending) (list_any (λ (rest : Rest). ends_in_fault rest.ending) (asked_rests options sources)) faultless in
+    let both = or_parts (ends_in_fault rest.ending) (list_any (λ (rest : Rest). ends_in_fault rest.ending) (asked_rests options sources)) faultless in
     All-cons (λ (rest : Rest). IsClean rest.ending) rest (asked_rests options sources)
     (clean_ending rest.ending (unstopped source.0 source.1 options.pick options.naming) both.0) (clean_rests options sources both.1)
 

@@ -11,6 +11,7 @@ mod LiveSaid
 mod LiveSinks
 mod LiveStreamLemmas
 mod LiveTexts
+mod MappedTests
 pub mod PageLemmas
 mod PictureLemmas
 mod RenewedFiles
@@ -18,7 +19,6 @@ mod ReportLemmas
 mod RunEndings
 mod SaidSources
 mod SomeOrder
-mod StepWords
 mod StrictEndings
 mod StrictSources
 mod SummedTexts

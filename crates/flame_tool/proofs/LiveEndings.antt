@@ -18,7 +18,7 @@ use Rattle.flame_tool.specs.ToldLive.{is_stopped}
 use Rattle.flame_tool.specs.checked.Drawings.{AreEndsOf}
 use Rattle.flame_tool.specs.checked.LiveEnds.{anywhere, is_faulty, is_faulty_end, status_by, status_by_ends, status_of_ends}
 use Rattle.flame_tool.specs.checked.LiveSaying.{end_of}
-use Rattle.flame_tool.proofs.StepWords.{list_any-map}
+use Rattle.flame_tool.proofs.MappedTests.{list_any-map}
 
 zip_of_lists : (lists : List ListState) → zip (map (λ list. list.ending) lists) (map (λ list. length list.samples) lists) ≡ map end_of lists
 zip_of_lists [] = refl
@@ -26,10 +26,6 @@ zip_of_lists (list ∷ lists) = ap (λ more. end_of list ∷ more) (zip_of_lists
 
 pub ends_are : (endings : List SourceEnd) (counts : List ℕ) (lists : List ListState) → AreEndsOf endings counts lists → zip endings counts ≡ map end_of lists
 ends_are endings counts lists are = (λ i. zip (are.endings_are i) (are.counts_are i)) ∙ zip_of_lists lists
-
-pub as_many_ends : (endings : List SourceEnd) (counts : List ℕ) (lists : List ListState) → AreEndsOf endings counts lists → length counts ≡ length endings
-as_many_ends endings counts lists are =
-    ap length are.counts_are ∙ length-map lists (λ list. length list.samples) ∙ sym (ap length are.endings_are ∙ length-map lists (λ list. list.ending))
 
 -- ---- the exit status
 

@@ -1,5 +1,7 @@
 -- What is told of the streams of a live run, by their texts.
 use Rattle.std.proofs.Common.{◌≡◌, ◌≢◌, ◌≤◌, ◌<◌, ◌+◌, ◌∙◌, ◌++◌, ℕ, zero, suc, Bool, true, false, List, [], ◌∷◌, Option, Some, None, Result, Ok, Err, IfSome, All, ap, arith, inl, inr, length, map, refl, subst, sym}
+use Rattle.std.proofs.lemmas.Slice.Zip.{AllZip-long}
+use Rattle.std.proofs.lemmas.Bool.{or_parts}
 use Rattle.std.specs.Prelude.{◌||◌, if◌then◌else◌, slice_get}
 use Rattle.std.specs.List.{AllZip, list_any}
 use Rattle.std.specs.Result.{IsErrAnd}
@@ -27,8 +29,8 @@ use Rattle.flame_tool.specs.ToldLive.{IsOfEnded, IsOfFailure, IsOfSome, IsSaidBe
 use Rattle.flame_tool.specs.checked.LiveEnds.{is_faulty, status_by, strict_list_fault}
 use Rattle.flame_tool.specs.checked.LiveSaying.{IsTellableList, SaidFirst, SaidOfEnds, SaidOfFirst, SaidOfLost, SaysEnds, SaysLost, SaysSuch, message_of_list}
 use Rattle.flame_tool.specs.checked.LiveStreams.{ReadsAs}
-use Rattle.flame_tool.proofs.EachSaid.{BothAt, as_many_zipped, both_at, said_alike}
-use Rattle.flame_tool.proofs.KnownSources.{neither}
+use Rattle.flame_tool.proofs.ExitStatuses.{of_others, only_many}
+use Rattle.flame_tool.proofs.EachSaid.{BothAt, both_at, said_alike}
 use Rattle.flame_tool.proofs.LiveTexts.{SeenOf, seen_all}
 
 -- ---- lists and their texts
@@ -70,13 +72,13 @@ said_there plan is_lost at (Some text) (Some list) both = said_by plan (is_lost 
 texts_said : (plan : Plan) (is_lost : ℕ → Bool) (texts : List (List ℕ)) (lists : List ListState) (said : List ℕ) → AllZip (SeenOf plan.is_strict) texts lists
     → IsSaidOfEach (message_of_list plan is_lost) lists said → IsSaidOfEach (message_of_stream plan is_lost (cut_at lists)) texts said
 texts_said plan is_lost texts lists said seen =
-    said_alike (message_of_list plan is_lost) (message_of_stream plan is_lost (cut_at lists)) lists texts said (sym (as_many_zipped (SeenOf plan.is_strict) texts lists seen))
+    said_alike (message_of_list plan is_lost) (message_of_stream plan is_lost (cut_at lists)) lists texts said (AllZip-long (SeenOf plan.is_strict) texts lists seen)
     (λ at. said_there plan is_lost at (slice_get texts at) (slice_get lists at) (both_at (SeenOf plan.is_strict) texts lists seen at))
 
 never_cut : (lists : List ListState) → list_any (λ (list : ListState). is_stopped list.ending) lists ≡ false → (at : ℕ) → cut_at lists at ≡ false
 never_cut [] goes at = refl
-never_cut (list ∷ lists) goes zero = (neither (is_stopped list.ending) (list_any (λ (list : ListState). is_stopped list.ending) lists) goes).0
-never_cut (list ∷ lists) goes (suc at) = never_cut lists (neither (is_stopped list.ending) (list_any (λ (list : ListState). is_stopped list.ending) lists) goes).1 at
+never_cut (list ∷ lists) goes zero = (or_parts (is_stopped list.ending) (list_any (λ (list : ListState). is_stopped list.ending) lists) goes).0
+never_cut (list ∷ lists) goes (suc at) = never_cut lists (or_parts (is_stopped list.ending) (list_any (λ (list : ListState). is_stopped list.ending) lists) goes).1 at
 
 one_stopped : (lists : List ListState) → list_any (λ (list : ListState). is_stopped list.ending) lists ≡ true → (k : ℕ) × (k < length lists) × (cut_at lists k ≡ true)
 one_stopped [] any = absurd (cc)
@@ -135,7 +137,7 @@ module _ (plan : Plan) (Says : List ℕ → Type 0) (texts : List (List ℕ)) (r
             let one = one_stopped lists (stopped_status stopped faulty (sym ended.ended ∙ three)) in
             record {
               said = ended.said;
-              is_such = record { is_cut = cut_at lists; one = one.0; within = subst (λ n. one.0 < n) (sym (as_many_zipped (SeenOf plan.is_strict) texts lists seen)) one.1; is_unread = one.2; is = said };
+              is_such = record { is_cut = cut_at lists; one = one.0; within = subst (λ n. one.0 < n) (AllZip-long (SeenOf plan.is_strict) texts lists seen) one.1; is_unread = one.2; is = said };
               says = ended.says;
             };
       }
@@ -184,24 +186,8 @@ none_said plan count = record { ends = λ at. (ends.Clean 0, 0); is_lost = λ at
 
 -- the exit status is none of a run that went to its end
 pub failed_high : (untold some first lost : Type 0) (failure : Failure) → SaidFirst untold some first lost failure → status_of failure ≤ 1 → ⊥
-failed_high untold some first lost TooManyFiles said low = omega (arith, low)
-failed_high untold some first lost (Unreadable source) said low = omega (arith, low)
-failed_high untold some first lost (TooLarge source) said low = omega (arith, low)
-failed_high untold some first lost OutOfMemory said low = omega (arith, low)
-failed_high untold some first lost NoThread said low = omega (arith, low)
-failed_high untold some first lost (Unfinished source) said low = omega (arith, low)
-failed_high untold some first lost Faults said low = said
-failed_high untold some first lost (Output fault) said low = omega (arith, low)
-
-many_of : (untold some first lost : Type 0) (failure : Failure) → status_of failure ≡ 2 → SaidFirst untold some first lost failure → (failure ≡ TooManyFiles) × untold
-many_of untold some first lost TooManyFiles two said = (refl, said)
-many_of untold some first lost (Unreadable source) two said = absurd (omega (arith, two))
-many_of untold some first lost (TooLarge source) two said = absurd (omega (arith, two))
-many_of untold some first lost OutOfMemory two said = absurd (omega (arith, two))
-many_of untold some first lost NoThread two said = absurd (omega (arith, two))
-many_of untold some first lost (Unfinished source) two said = absurd (omega (arith, two))
-many_of untold some first lost Faults two said = absurd said
-many_of untold some first lost (Output fault) two said = absurd (omega (arith, two))
+failed_high untold some first lost failure said low =
+    of_others (λ failure. status_of failure ≤ 1 → SaidFirst untold some first lost failure → ⊥) (λ low said. omega (arith, low)) (λ low said. said) failure (λ three. omega (arith, low, three)) low said
 
 -- how some streams ended, or what there is to say of some
 ended : {plan : Plan} {Says : List ℕ → Type 0} (known : Option (List (List ℕ))) → SaysSuch (IsOfSome plan (stream_count plan.files)) Says → IfSome known (SaidOfFirst plan Says) → SaysSuch (IsOfEnded plan known) Says
@@ -217,8 +203,8 @@ module _ {E : Type 0} (contents : E → Option (List ℕ)) (failures : E → ℕ
   pub many_told : (plan : Plan) (start mid new : E) (some first lost : Type 0) (failure : Failure) → status_of failure ≡ 2 → SaidFirst (mid ≡ start) some first lost failure
       → Gains mid new (message_of_failure plan.files failure) → Gains start new (message_of_failure plan.files TooManyFiles)
   many_told plan start mid new some those lost failure two first told =
-      let many = many_of (mid ≡ start) some those lost failure two first in
-      subst (λ err. Gains err new (message_of_failure plan.files TooManyFiles)) many.1 (subst (λ failure. Gains mid new (message_of_failure plan.files failure)) many.0 told)
+      let is = only_many failure two in
+      subst (λ err. Gains err new (message_of_failure plan.files TooManyFiles)) (subst (SaidFirst (mid ≡ start) some those lost) is first) (subst (λ failure. Gains mid new (message_of_failure plan.files failure)) is told)
 
   pub alone_told : (Is : Failure → Type 0) (files : List (List ℕ)) (start mid new : E) (failure : Failure) → Is failure → mid ≡ start → Gains mid new (message_of_failure files failure)
       → TellsSuch (IsOfFailure Is files) (contents start) (contents new) (failures start) (failures new)

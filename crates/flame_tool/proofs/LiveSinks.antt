@@ -35,6 +35,7 @@ use Rattle.live_lines.specs.Lines.{end_of, live_lines, live_text}
 use Rattle.live_lines.specs.Settings.{counted_numbers, form_number, known_numbers, live_setting}
 use Rattle.live_lines.specs.Written.{GrewByFront, grown_by}
 use Rattle.live_lines.specs.declared.form.LiveForm.{LiveForm}
+use Rattle.live_lines.specs.declared.sink.LiveLines.{LiveLines}
 use Rattle.live_lines.proofs.GraphLemmas.{text_is_graph_text}
 use Rattle.live_lines.proofs.SettingLemmas.{counted_same, same_form, same_known}
 use Rattle.flame_tool.specs.LiveRuns.{AreFirst, ShowsFirstOf, ShowsSomeOf, frames_of, lines_of, live_texts, pages_of}
@@ -190,10 +191,6 @@ module _ (plan : Plan) (width every : ℕ) (graph : plan.view ≡ Graph width) (
       gained = subst (λ text. AppendsFront text old new) is_text gained;
     }
 
--- a front of the lines is a front of the text
-pub front_of_text : (form : LiveForm) (sources width every : ℕ) (taken : List (ℕ × Sample)) (old new : Option (List ℕ)) → GrewByFront (live_lines form sources width every taken) old new → AppendsFront (live_text form sources width every taken) old new
-front_of_text form sources width every taken old new grew = front_more (live_lines form sources width every taken) (end_of form width taken) old new (grown_by old new, grew)
-
 -- ---- what no sample changes
 
 -- a sink writes to the same outlet, of which the same is known, and what no end changes of its teller is the same
@@ -207,17 +204,19 @@ pub record SameSetting (name name' : ℕ) (contents contents' : Option (List ℕ
   pub every_is : every' ≡ every
   pub kept_is : kept' ≡ kept
 
-pub same_setting : (name name' : ℕ) (contents contents' : Option (List ℕ)) (failures failures' : ℕ) (form form' : LiveForm) (sources sources' width width' every every' : ℕ) (kept kept' : List ℕ)
-    → live_setting name' contents' failures' form' sources' width' every' kept' ≡ live_setting name contents failures form sources width every kept
-    → SameSetting name name' contents contents' failures failures' form form' sources sources' width width' every every' kept kept'
-same_setting name name' contents contents' failures failures' form form' sources sources' width width' every every' kept kept' is =
-    let rest : counted_numbers (known_numbers contents') ++ kept' ≡ counted_numbers (known_numbers contents) ++ kept = cc in
-    let both = counted_same (known_numbers contents') (known_numbers contents) kept' kept rest in
+pub same_setting : {W : Type 0} (known : W → Option (List ℕ)) (failures : W → ℕ) (name name' : ℕ) (lines lines' : LiveLines W) (kept kept' : List ℕ)
+    → live_setting name' (known lines'.start.value) (failures lines'.start.value) lines'.merge.form lines'.merge.sources lines'.width lines'.every kept'
+    ≡ live_setting name (known lines.start.value) (failures lines.start.value) lines.merge.form lines.merge.sources lines.width lines.every kept
+    → SameSetting name name' (known lines.start.value) (known lines'.start.value) (failures lines.start.value) (failures lines'.start.value) lines.merge.form lines'.merge.form
+    lines.merge.sources lines'.merge.sources lines.width lines'.width lines.every lines'.every kept kept'
+same_setting known failures name name' lines lines' kept kept' is =
+    let rest : counted_numbers (known_numbers (known lines'.start.value)) ++ kept' ≡ counted_numbers (known_numbers (known lines.start.value)) ++ kept = cc in
+    let both = counted_same (known_numbers (known lines'.start.value)) (known_numbers (known lines.start.value)) kept' kept rest in
     record {
       name_is = cc;
-      contents_are = same_known contents' contents both.0;
+      contents_are = same_known (known lines'.start.value) (known lines.start.value) both.0;
       failures_are = cc;
-      form_is = let same : form_number form' ≡ form_number form = cc in same_form form' form same;
+      form_is = let same : form_number lines'.merge.form ≡ form_number lines.merge.form = cc in same_form lines'.merge.form lines.merge.form same;
       sources_are = cc;
       width_is = cc;
       every_is = cc;
@@ -234,16 +233,6 @@ front_of_sink {contents = contents} {contents' = contents'} {form = form} {form'
     (subst (λ n. AppendsFront (live_lines form' sources' n every taken) contents out) same.width_is
     (subst (λ n. AppendsFront (live_lines form' sources' width' n taken) contents out) same.every_is
     (subst (λ known. AppendsFront (live_lines form' sources' width' every' taken) known out) same.contents_are (grown_by contents' out, grew)))))
-
--- and its text is what is promised of what was collected
-pub text_of_run : {name name' : ℕ} {contents contents' : Option (List ℕ)} {failures failures' : ℕ} {form form' : LiveForm} {sources sources' width width' every every' : ℕ} {kept kept' : List ℕ} (plan : Plan) (is_terminal : Bool) → plan.view ≡ Graph width → plan.options.every ≡ Some every
-    → form ≡ form_of is_terminal plan every → (rests : List Rest) (taken : List (ℕ × Sample)) (lists : List ListState) (order : List ℕ)
-    → SameSetting name name' contents contents' failures failures' form form' sources sources' width width' every every' kept kept' → sources ≡ length rests → CollectsRun anywhere anywhere rests [] taken lists order
-    → live_text form' sources' width' every' taken ≡ live_texts is_terminal plan (samples_of lists) order
-text_of_run {form' = form'} {sources = sources} {sources' = sources'} {width = width} {width' = width'} {every = every} {every' = every'} plan is_terminal graph often formed rests taken lists order same count run =
-    ap (live_text form' sources' width' every') run.sink
-    ∙ (λ i. live_text ((same.form_is ∙ formed) i) (same.sources_are i) (same.width_is i) (same.every_is i) (interleaved order (samples_of lists)))
-    ∙ text_is plan width every graph often is_terminal (samples_of lists) order sources run.order (length-map lists (λ list. list.samples) ∙ run.lists.count ∙ sym count)
 
 pub drawn_text : (plan : Plan) (width every : ℕ) (is_terminal : Bool) → plan.view ≡ Graph width → plan.options.every ≡ Some every → (form : LiveForm) → form ≡ form_of is_terminal plan every
     → (rests : List Rest) (taken : List (ℕ × Sample)) (lists : List ListState) (order : List ℕ) → CollectsRun anywhere anywhere rests [] taken lists order → live_text form (length rests) width every taken ≡ live_texts is_terminal plan (samples_of lists) order

@@ -1,5 +1,6 @@
 -- Streams that are opened one after another.
 use Rattle.std.proofs.Common.{◌≡◌, ◌||◌, ◌+◌, ◌<◌, ◌≤◌, ◌^◌, ℕ, Bool, true, false, List, [], ◌∷◌, ◌++◌, Option, Some, None, IfSome, length, map, refl, take, get_or, ap, sym, subst, ◌∙◌, arith}
+use Rattle.std.proofs.lemmas.List.Folds.{list_any_more}
 use Rattle.std.specs.Prelude.{◌↔◌, IsNone, IsSomeAnd, slice_get}
 use Rattle.std.specs.List.{AllZip, list_any}
 use Rattle.std.proofs.lemmas.Bool.{true≢false}
@@ -17,9 +18,9 @@ use Rattle.ring_collect.proofs.RunLemmas.{at_index}
 use Rattle.source_views.specs.Failures.{IsOfLoad, failure_of_load}
 use Rattle.source_views.specs.declared.failures.Failure.{Failure}
 use Rattle.source_views.specs.declared.failures.Failure.TheVariants.{Unreadable}
+use Rattle.flame_tool.proofs.MappedTests.{list_any-map}
 use Rattle.flame_tool.specs.ToldLive.{IsMissing, stream_count}
 use Rattle.flame_tool.specs.checked.LiveStreams.{AreOpened, GivesStream, IsOfFile, ReadsAs, ReadsText}
-use Rattle.flame_tool.proofs.KnownSources.{neither}
 
 -- a reader that gives what a stream may give
 possible_stream : (is_strict : Bool) (remaining : Option (List ℕ)) (is_sure : Bool) → (is_sure ≡ true → IsSomeAnd remaining (λ bytes. length bytes < 2 ^ 64)) → GivesSome (GivesStream is_strict remaining is_sure)
@@ -66,24 +67,11 @@ opened_whole is_strict gives bytes input files (path ∷ paths) at readers some 
     subst (λ ps. AllZip (IsOfFile is_strict gives files) (map bytes ps) readers) (take_all at (path ∷ paths) all) opened
 
 -- no path is known to be absent, of one more
-neither_is : (a b : Bool) → a ≡ false → b ≡ false → (a || b) ≡ false
-neither_is a b one other = λ i. one i || other i
-
-any_push : {A : Type 0} (p : A → Bool) (xs : List A) (x : A) → list_any p xs ≡ false → p x ≡ false → list_any p (xs ++ x ∷ []) ≡ false
-any_push p [] x none here = neither_is (p x) (list_any p []) here refl
-any_push p (y ∷ xs) x none here =
-    let both = neither (p y) (list_any p xs) none in
-    neither_is (p y) (list_any p (xs ++ x ∷ [])) both.0 (any_push p xs x both.1 here)
-
 pub present_more : {A : Type 0} (absent : List ℕ → Bool) (bytes : A → List ℕ) (paths : List A) (at : ℕ) (path : A) → at < length paths → path ≡ get_or paths at path
     → list_any absent (map bytes (take at paths)) ≡ false → absent (bytes path) ≡ false → list_any absent (map bytes (take (at + 1) paths)) ≡ false
 present_more absent bytes paths at path below is none here =
-    subst (λ ps. list_any absent ps ≡ false)
-    (sym (ap (map bytes) (take_more paths at path below ∙ ap (λ p. take at paths ++ p ∷ []) (sym is)) ∙ map-append bytes (take at paths) (path ∷ [])))
-    (any_push absent (map bytes (take at paths)) (bytes path) none here)
-
-pub present_whole : {A : Type 0} (absent : List ℕ → Bool) (bytes : A → List ℕ) (paths : List A) (at : ℕ) → length paths ≤ at → list_any absent (map bytes (take at paths)) ≡ false → list_any absent (map bytes paths) ≡ false
-present_whole absent bytes paths at all none = subst (λ ps. list_any absent (map bytes ps) ≡ false) (take_all at paths all) none
+    list_any-map absent bytes (take (at + 1) paths) ∙ list_any_more (λ path. absent (bytes path)) paths at path below
+    ∙ (λ i. (sym (list_any-map absent bytes (take at paths)) ∙ none) i || (ap (λ path. absent (bytes path)) (sym is) ∙ here) i)
 
 pub not_true : (b : Bool) → (b ≡ true → false ≡ true) → b ≡ false
 not_true true never = sym (never refl)
@@ -113,7 +101,3 @@ missing_file absent known bytes paths at path failure below same none loaded unk
 pub some_streams : {A : Type 0} (bytes : A → List ℕ) (paths : List A) → 0 < length paths → stream_count (map bytes paths) ≡ length paths
 some_streams bytes [] some = absurd (omega (arith, some))
 some_streams bytes (path ∷ paths) some = length-map (path ∷ paths) bytes
-
-pub one_stream : {A : Type 0} (bytes : A → List ℕ) (paths : List A) → length paths ≡ 0 → stream_count (map bytes paths) ≡ 1
-one_stream bytes [] none = refl
-one_stream bytes (path ∷ paths) none = absurd (omega (arith, none))

@@ -1,13 +1,15 @@
 -- What a live run says of the texts of its streams.
-use Rattle.std.proofs.Common.{◌≡◌, ◌≢◌, ℕ, zero, suc, Bool, true, false, List, [], ◌∷◌, ◌++◌, Option, Some, None, Result, Ok, Err, IfErr, IfOk, IfSome, All, length, map, take, drop, refl, sym, ap, subst, ◌∙◌, arith, append_assoc, inl, inr}
+use Rattle.std.proofs.Common.{◌≡◌, ◌≢◌, ℕ, zero, suc, Bool, true, false, List, [], ◌∷◌, Option, Some, None, Result, Ok, Err, IfErr, IfOk, IfSome, All, length, map, take, drop, refl, sym, ap, subst, ◌∙◌, arith, inl, inr}
+use Rattle.call_tree.proofs.NameNumbers.{IsPrefixOf-trans}
+use Rattle.std.proofs.lemmas.Slice.Zip.{AllZip-long}
 use Rattle.std.specs.Prelude.{◌||◌, is_some, option_and_then, option_map, slice_get}
 use Rattle.std.specs.List.{AllZip, list_any}
 use Rattle.std.specs.Io.KnownBytes.{Appends}
 use Rattle.std.specs.Result.{IsErrAnd}
-use Rattle.std.proofs.lemmas.Bool.{true≢false}
+use Rattle.std.proofs.lemmas.Bool.{or_parts, true≢false}
 use Rattle.std.proofs.lemmas.List.{length-map, take-append-drop, take_all}
 use Rattle.std.proofs.lemmas.List.Elements.{All-nil, All-cons}
-use Rattle.std.proofs.lemmas.Option.{same_Some}
+use Rattle.std.proofs.lemmas.Option.{IfSome_then, same_Some}
 use Rattle.sample_tables.specs.declared.samples.Sample.{Sample}
 use Rattle.stack_core.specs.Interleaving.{IsInterleaving, list_of}
 use Rattle.stack_core.specs.Ledgers.{ListState}
@@ -32,12 +34,9 @@ use Rattle.flame_tool.specs.ToldLive.{is_stopped}
 use Rattle.flame_tool.specs.checked.LiveEnds.{EndsLive, FailsLive, TellsTexts, anywhere, is_faulty, live_status, status_by, strict_list_fault}
 use Rattle.flame_tool.specs.checked.LiveSaying.{IsTellableList}
 use Rattle.flame_tool.specs.checked.LiveStreams.{AreOpened, IsOfFile, IsOfInput, ReadsAs, ReadsText}
-use Rattle.flame_tool.proofs.KnownSources.{clean_ending, faults_of_rests, faulty_rests, neither, samples_of_rests}
+use Rattle.flame_tool.proofs.KnownSources.{clean_ending, faults_of_rests, faulty_rests, samples_of_rests}
 
 -- ---- what was collected of a text
-
-prefix_trans : {A : Type 0} (xs ys zs : List A) → IsPrefixOf xs ys → IsPrefixOf ys zs → IsPrefixOf xs zs
-prefix_trans xs ys zs first second = (first.0 ++ second.0, sym (append_assoc xs first.0 second.0) ∙ ap (λ front. front ++ second.0) first.1 ∙ second.1)
 
 -- all that the text reads to, or first samples of it
 pub record SeenOf (is_strict : Bool) (text : List ℕ) (list : ListState) : Type 0 where
@@ -57,7 +56,7 @@ seen is_strict text rest list source reads (IsCollected.Whole goes same) = recor
 seen is_strict text rest list source reads (IsCollected.StoppedAt i within stops goes same) = record {
   whole = λ goes. absurd (unstopped list.ending goes i (ap (λ (rest : Rest). rest.ending) same));
   first = subst (λ (rest : Rest). IsPrefixOf rest.samples (read_text is_strict text).samples) (sym same)
-      (prefix_trans (take i rest.samples) rest.samples (read_text is_strict text).samples (drop i rest.samples, take-append-drop i rest.samples) reads.first);
+      (IsPrefixOf-trans (take i rest.samples) rest.samples (read_text is_strict text).samples (drop i rest.samples, take-append-drop i rest.samples) reads.first);
   tellable = λ strict. subst (λ (rest : Rest). IsTellable (length rest.samples) rest.ending) (sym same) tt;
 }
 
@@ -81,14 +80,14 @@ whole_all is_strict [] [] seen goes = refl
 whole_all is_strict [] (list ∷ lists) seen goes = absurd seen
 whole_all is_strict (text ∷ texts) [] seen goes = absurd seen
 whole_all is_strict (text ∷ texts) (list ∷ lists) seen goes =
-    let both = neither (is_stopped list.ending) (list_any (λ (list : ListState). is_stopped list.ending) lists) goes in
+    let both = or_parts (is_stopped list.ending) (list_any (λ (list : ListState). is_stopped list.ending) lists) goes in
     λ i. seen.0.whole both.0 i ∷ whole_all is_strict texts lists seen.1 both.1 i
 
 clean_all : (lists : List ListState) → list_any (λ (list : ListState). is_stopped list.ending) lists ≡ false → has_fault lists ≡ false → All (λ (rest : Rest). IsClean rest.ending) (map seen_as_rest lists)
 clean_all [] goes faultless = All-nil (λ (rest : Rest). IsClean rest.ending)
 clean_all (list ∷ lists) goes faultless =
-    let going = neither (is_stopped list.ending) (list_any (λ (list : ListState). is_stopped list.ending) lists) goes in
-    let both = neither (ends_in_fault list.ending) (has_fault lists) faultless in
+    let going = or_parts (is_stopped list.ending) (list_any (λ (list : ListState). is_stopped list.ending) lists) goes in
+    let both = or_parts (ends_in_fault list.ending) (has_fault lists) faultless in
     All-cons (λ (rest : Rest). IsClean rest.ending) (seen_as_rest list) (map seen_as_rest lists)
     (clean_ending list.ending (unstopped list.ending going.0) both.0) (clean_all lists going.1 both.1)
 
@@ -101,7 +100,7 @@ strict_all [] [] seen goes = refl
 strict_all [] (list ∷ lists) seen goes = absurd seen
 strict_all (text ∷ texts) [] seen goes = absurd seen
 strict_all (text ∷ texts) (list ∷ lists) seen goes =
-    let both = neither (is_stopped list.ending) (list_any (λ (list : ListState). is_stopped list.ending) lists) goes in
+    let both = or_parts (is_stopped list.ending) (list_any (λ (list : ListState). is_stopped list.ending) lists) goes in
     λ i. is_some (strict_one text list seen.0 both.0 i) || strict_all texts lists seen.1 both.1 i
 
 -- whether a text has a fault, where none was stopped
@@ -117,12 +116,6 @@ faulty_texts true texts lists seen goes faulty = sym (strict_all texts lists see
 
 -- ---- first samples
 
-fronts_length : (is_strict : Bool) (texts : List (List ℕ)) (lists : List ListState) → AllZip (SeenOf is_strict) texts lists → length (samples_of lists) ≡ length (read_texts is_strict texts)
-fronts_length is_strict [] [] seen = refl
-fronts_length is_strict [] (list ∷ lists) seen = absurd seen
-fronts_length is_strict (text ∷ texts) [] seen = absurd seen
-fronts_length is_strict (text ∷ texts) (list ∷ lists) seen = ap suc (fronts_length is_strict texts lists seen.1)
-
 fronts_first : (is_strict : Bool) (texts : List (List ℕ)) (lists : List ListState) → AllZip (SeenOf is_strict) texts lists → (source : ℕ) (rest : Rest) → slice_get (read_texts is_strict texts) source ≡ Some rest → IsPrefixOf (list_of (samples_of lists) source) rest.samples
 fronts_first is_strict [] lists seen source rest is = absurd (cc)
 fronts_first is_strict (text ∷ texts) [] seen source rest is = absurd seen
@@ -130,12 +123,6 @@ fronts_first is_strict (text ∷ texts) (list ∷ lists) seen zero rest is = sub
 fronts_first is_strict (text ∷ texts) (list ∷ lists) seen (suc source) rest is = fronts_first is_strict texts lists seen.1 source rest is
 
 -- of first samples of rests, which are first samples of texts
-reads_length : (is_strict : Bool) (texts : List (List ℕ)) (rests : List Rest) → AllZip (ReadsAs is_strict) texts rests → length rests ≡ length texts
-reads_length is_strict [] [] reads = refl
-reads_length is_strict [] (rest ∷ rests) reads = absurd reads
-reads_length is_strict (text ∷ texts) [] reads = absurd reads
-reads_length is_strict (text ∷ texts) (rest ∷ rests) reads = ap suc (reads_length is_strict texts rests reads.1)
-
 reads_first : (is_strict : Bool) (texts : List (List ℕ)) (rests : List Rest) → AllZip (ReadsAs is_strict) texts rests → (source : ℕ) (all : Rest) → slice_get (read_texts is_strict texts) source ≡ Some all → (rest : Rest) × (slice_get rests source ≡ Some rest) × IsPrefixOf rest.samples all.samples
 reads_first is_strict [] rests reads source all is = absurd (cc)
 reads_first is_strict (text ∷ texts) [] reads source all is = absurd reads
@@ -145,10 +132,10 @@ reads_first is_strict (text ∷ texts) (rest ∷ rests) reads (suc source) all i
 
 first_of_texts : (is_strict : Bool) (texts : List (List ℕ)) (rests : List Rest) (lists : List (List Sample)) → AllZip (ReadsAs is_strict) texts rests → AreFirst rests lists → AreFirst (read_texts is_strict texts) lists
 first_of_texts is_strict texts rests lists reads first = record {
-  count = first.count ∙ reads_length is_strict texts rests reads ∙ sym (length-map texts (read_text is_strict));
+  count = first.count ∙ AllZip-long (ReadsAs is_strict) texts rests reads ∙ sym (length-map texts (read_text is_strict));
   first = λ source all is.
       let rest = reads_first is_strict texts rests reads source all is in
-      prefix_trans (list_of lists source) rest.0.samples all.samples (first.first source rest.0 rest.1) rest.2;
+      IsPrefixOf-trans (list_of lists source) rest.0.samples all.samples (first.first source rest.0 rest.1) rest.2;
 }
 
 -- ---- the exit status
@@ -189,7 +176,7 @@ module _ (is_terminal : Bool) (plan : Plan) (old new : Option (List ℕ)) (texts
               (faulty_texts plan.is_strict texts ended.lists seen_of both.0 both.1, shows both.0);
           front = λ three. inl (record {
             lists = samples_of ended.lists;
-            are_first = record { count = fronts_length plan.is_strict texts ended.lists seen_of; first = fronts_first plan.is_strict texts ended.lists seen_of };
+            are_first = record { count = length-map ended.lists (λ list. list.samples) ∙ AllZip-long (SeenOf plan.is_strict) texts ended.lists seen_of ∙ sym (length-map texts (read_text plan.is_strict)); first = fronts_first plan.is_strict texts ended.lists seen_of };
             order = ended.order;
             ordered = ended.ordered;
             gained = (length text, subst (Appends old new) (sym (take_all (length text) text (omega arith))) ended.gained);
@@ -213,7 +200,7 @@ module _ (is_terminal : Bool) (plan : Plan) (old new : Option (List ℕ)) (texts
   some_tells some = record {
     shown = λ zero. absurd (omega arith);
     faulty = λ one. absurd (omega arith);
-    front = λ three. inr (subst (ShowsSomeOf (live_texts is_terminal plan) old new) (reads_length plan.is_strict texts rests reads) some);
+    front = λ three. inr (subst (ShowsSomeOf (live_texts is_terminal plan) old new) (AllZip-long (ReadsAs plan.is_strict) texts rests reads) some);
   }
 
   pub failed_tells : (failure : Failure) → FailsLive is_terminal plan old new failure rests → TellsTexts is_terminal plan old new (status_of failure) texts
@@ -263,16 +250,12 @@ opened_texts : {R : Type 0} (is_strict : Bool) (gives : R → Rest → Type 0) (
 opened_texts is_strict gives input files [] readers opened = known_input is_strict gives input readers opened
 opened_texts is_strict gives input files (path ∷ paths) readers opened = known_files is_strict gives files (path ∷ paths) readers opened
 
-if_some : {A : Type 0} (P Q : A → Type 0) (known : Option A) → ((x : A) → P x → Q x) → IfSome known P → IfSome known Q
-if_some P Q None so some = tt
-if_some P Q (Some x) so some = so x some
-
 -- what rests that are given tell of texts, they tell of those that are known
 pub known_tell : {R : Type 0} (is_strict : Bool) (gives : R → Rest → Type 0) (input : Option (List ℕ)) (files : List ℕ → Option (List ℕ)) (paths : List (List ℕ)) (readers : List R) (Holds : List Rest → Type 0) (Tells : List (List ℕ) → Type 0)
     → AreOpened is_strict gives input files paths readers → GiveSuch gives readers Holds → ((texts : List (List ℕ)) (rests : List Rest) → AllZip (ReadsAs is_strict) texts rests → Holds rests → Tells texts) → IfSome (known_texts paths input files) Tells
 known_tell is_strict gives input files paths readers Holds Tells opened given so =
-    if_some (AllZip (λ reader text. ReadsText is_strict (gives reader) text) readers) Tells (known_texts paths input files)
-    (λ texts are. so texts given.rests (texts_given is_strict gives readers given.rests texts given.are_given are) given.holds) (opened_texts is_strict gives input files paths readers opened)
+    IfSome_then (known_texts paths input files) {P = AllZip (λ reader text. ReadsText is_strict (gives reader) text) readers} {Q = Tells} (opened_texts is_strict gives input files paths readers opened)
+    (λ texts are. so texts given.rests (texts_given is_strict gives readers given.rests texts given.are_given are) given.holds)
 
 -- what a run's result tells
 pub result_tells : {R : Type 0} (gives : R → Rest → Type 0) (input : Option (List ℕ)) (files : List ℕ → Option (List ℕ)) (paths : List (List ℕ)) (readers : List R) (is_terminal : Bool) (plan : Plan) (old new : Option (List ℕ)) (result : Result ℕ Failure)

@@ -11,15 +11,12 @@ use Rattle.page_texts.specs.Drawn.{source_of}
 use Rattle.page_texts.specs.declared.pages.Source.{Source}
 use Rattle.profile_messages.specs.declared.types.SampleType.{SampleType}
 use Rattle.source_lists.specs.Types.{type_or_none}
-use Rattle.command_line.specs.declared.plans.PageForm.{PageForm}
-use Rattle.command_line.specs.declared.plans.Plan.{Plan}
 use Rattle.command_line.specs.declared.plans.View.{View}
 use Rattle.command_line.specs.declared.plans.View.TheVariants.{Fold, Graph, Chart, Pairs, PairBoxes, Top, Diff}
 use Rattle.page_texts.specs.Document.{document_text}
 use Rattle.source_views.specs.Pages.{PageHeading, snapshots_page}
 use Rattle.source_views.specs.Texts.{IsOrderless}
-use Rattle.flame_tool.specs.declared.run_facts.RunFacts.{RunFacts}
-use Rattle.flame_tool.specs.Pages.{asked_heading, default_title, headed_text, page_text, source_at, unit_or}
+use Rattle.flame_tool.specs.Pages.{default_title, headed_text, source_at, unit_or}
 use Rattle.command_line.specs.declared.units.WeightUnit.{WeightUnit}
 use Rattle.source_views.specs.Names.{source_name}
 
@@ -32,10 +29,6 @@ joined_later bytes separator (text ∷ texts) = ap (λ later. (separator ++ byte
 pub joined_title : {A : Type 0} (bytes : A → List ℕ) (files : List A) → 0 < length files → join_by bytes (codes ", ") files ≡ default_title (map bytes files)
 joined_title bytes [] some = absurd (omega arith)
 joined_title bytes (file ∷ files) some = ap (λ later. bytes file ++ later) (joined_later bytes (codes ", ") files)
-
-pub no_title : {A : Type 0} (bytes : A → List ℕ) (files : List A) → length files ≡ 0 → codes "standard input" ≡ default_title (map bytes files)
-no_title bytes [] none = refl
-no_title bytes (file ∷ files) none = absurd (omega arith)
 
 -- a source that is told by its parts
 pub told_source : (source : Source) (asked : Option WeightUnit) (files : List (List ℕ)) (types : List SampleType) (lists : List (List Sample)) (at : ℕ)

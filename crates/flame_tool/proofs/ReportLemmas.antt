@@ -8,7 +8,7 @@ use Rattle.folded_lines.specs.StrictStreams.{strict_ending_fault}
 use Rattle.command_line.specs.declared.plans.Plan.{Plan}
 use Rattle.source_views.specs.Messages.{HasFailed, Tells, message_of_ending, message_of_failure, message_of_strict_fault}
 use Rattle.source_views.specs.declared.failures.Failure.TheVariants.{Unreadable}
-use Rattle.source_views.proofs.MessageTexts.{tells_more, tells_nothing}
+use Rattle.source_views.proofs.MessageTexts.{tells_more}
 use Rattle.live_lines.specs.Ends.{ToldEnd}
 use Rattle.live_lines.specs.Settings.{counted_numbers, known_numbers}
 use Rattle.live_lines.proofs.SettingLemmas.{counted_same, same_known}
@@ -41,10 +41,6 @@ unless_of text old new before after (inl told) whole = told
 unless_of text old new before after (inr failed) whole =
     let fails : has_failed before after ≡ true = failing_by (nat_lt before after) (nat_le (2 ^ 64 - 1) after) before after refl refl failed in absurd (cc)
 
-pub nothing_said : (is_at_once : Bool) (plan : Plan) (out : Option (List ℕ)) (count : ℕ) → TellsUnlessFailed (said_at_once is_at_once plan []) out out count count
-nothing_said true plan out count = unless_of [] out out count count (tells_nothing out count)
-nothing_said false plan out count = unless_of [] out out count count (tells_nothing out count)
-
 -- of one more end
 pub said_more : (is_at_once : Bool) (plan : Plan) (told : List ToldEnd) (end : ToldEnd) (old mid new : Option (List ℕ)) (before between after : ℕ) → is_at_once ≡ true
     → TellsUnlessFailed (said_at_once is_at_once plan told) old mid before between → Tells (message_of_counted plan end.is_lost end.source (end.ending, end.count)) mid new between after
@@ -68,17 +64,9 @@ unfolding said_with
 same_said true plan plan' told files strict = λ i. said_with (files i) (strict i) told
 same_said false plan plan' told files strict = refl
 
-pub reports_tell : (is_at_once : Bool) (plan plan' : Plan) (told : List ToldEnd) (old old' new : Option (List ℕ)) (before before' after : ℕ) → plan'.files ≡ plan.files → plan'.is_strict ≡ plan.is_strict → old' ≡ old → before' ≡ before
-    → TellsUnlessFailed (said_at_once is_at_once plan' told) old' new before' after → Tells (said_at_once is_at_once plan told) old new before after
-reports_tell is_at_once plan plan' told old old' new before before' after files strict starts counts said =
-    let same = same_said is_at_once plan plan' told files strict in
-    subst (λ before. Tells (said_at_once is_at_once plan told) old new before after) counts
-    (subst (λ old. Tells (said_at_once is_at_once plan told) old new before' after) starts
-    (subst (λ text. Tells text old' new before' after) same (tells_of (said_at_once is_at_once plan' told) old' new before' after said)))
-
 -- ---- what no end changes
 
-pub record SameReports (name name' : ℕ) (contents contents' : Option (List ℕ)) (failures failures' : ℕ) (is_strict is_strict' : Bool) (files files' : List (List ℕ)) : Type 0 where
+record SameReports (name name' : ℕ) (contents contents' : Option (List ℕ)) (failures failures' : ℕ) (is_strict is_strict' : Bool) (files files' : List (List ℕ)) : Type 0 where
   pub name_is : name' ≡ name
   pub contents_are : contents' ≡ contents
   pub failures_are : failures' ≡ failures
@@ -101,7 +89,7 @@ same_files (file ∷ files) (other ∷ others) is =
     let behind = same_files files others both.1 in
     λ i. here i ∷ behind i
 
-pub same_reports : (name name' : ℕ) (contents contents' : Option (List ℕ)) (failures failures' : ℕ) (is_strict is_strict' : Bool) (files files' : List (List ℕ))
+same_reports : (name name' : ℕ) (contents contents' : Option (List ℕ)) (failures failures' : ℕ) (is_strict is_strict' : Bool) (files files' : List (List ℕ))
     → reports_setting name' contents' failures' is_strict' files' ≡ reports_setting name contents failures is_strict files
     → SameReports name name' contents contents' failures failures' is_strict is_strict' files files'
 same_reports name name' contents contents' failures failures' is_strict is_strict' files files' is =
@@ -115,3 +103,17 @@ same_reports name name' contents contents' failures failures' is_strict is_stric
       strict_is = same_strict is_strict' is_strict strict;
       files_are = same_files files' files both.1;
     }
+
+-- what is left of reports that were made for a plan and an outlet: it is that outlet, which was told of the ends behind what stood there
+pub left_tell : {E : Type 0} (contents : E → Option (List ℕ)) (failures : E → ℕ) (plan made left : Plan) (start begun kept err : E) (name name' : ℕ) (is_at_once : Bool) (told : List ToldEnd) → made ≡ plan → begun ≡ start
+    → reports_setting name' (contents kept) (failures kept) left.is_strict left.files ≡ reports_setting name (contents begun) (failures begun) made.is_strict made.files
+    → TellsUnlessFailed (said_at_once is_at_once left told) (contents kept) (contents err) (failures kept) (failures err)
+    → (name' ≡ name) × Tells (said_at_once is_at_once plan told) (contents start) (contents err) (failures start) (failures err)
+left_tell contents failures plan made left start begun kept err name name' is_at_once told planned starts setting said =
+    let same = same_reports name name' (contents begun) (contents kept) (failures begun) (failures kept) made.is_strict left.is_strict made.files left.files setting in
+    let text = same_said is_at_once plan left told (same.files_are ∙ ap (λ (plan : Plan). plan.files) planned) (same.strict_is ∙ ap (λ (plan : Plan). plan.is_strict) planned) in (
+      same.name_is,
+      subst (λ before. Tells (said_at_once is_at_once plan told) (contents start) (contents err) before (failures err)) (same.failures_are ∙ ap failures starts)
+          (subst (λ old. Tells (said_at_once is_at_once plan told) old (contents err) (failures kept) (failures err)) (same.contents_are ∙ ap contents starts)
+          (subst (λ text. Tells text (contents kept) (contents err) (failures kept) (failures err)) text (tells_of (said_at_once is_at_once left told) (contents kept) (contents err) (failures kept) (failures err) said))),
+    )

@@ -30,36 +30,8 @@ use Rattle.flame_tool.specs.checked.Telling.{form_tells, view_tells}
 use Rattle.flame_tool.specs.Requests.{asked_faults, asked_plan}
 use Rattle.flame_tool.specs.Pages.{called_text, page_text, peeked_text, picture_text, shown_text, text_in, told_in}
 use Rattle.source_views.specs.Texts.{IsOrderless, told_text, view_text}
-use Rattle.flame_tool.specs.Runs.{lists_of, wanted_lists, text_of, GainsFront, IsClean, IsFault, Shows, ShowsFront, ShowsSamples, IsOfSamples}
 use Rattle.flame_tool.specs.StrictRuns.{HasPlainFault}
-use Rattle.flame_tool.specs.checked.Failures.{Fails, KeepsOutput}
-use Rattle.source_views.specs.Failures.{status_of}
-use Rattle.source_views.specs.declared.failures.Failure.{Failure}
-use Rattle.source_views.specs.declared.failures.Failure.TheVariants.{TooManyFiles, Unreadable, TooLarge, OutOfMemory, NoThread, Unfinished, Faults, Output}
-
--- ---- a failed run of a plan
-
-module _ (plan : Plan) (known : Option (List (Format × List ℕ))) (old new : Option (List ℕ)) where
-  pub failed_faulty : (failure : Failure) → status_of failure ≡ 1 → IfSome known (Fails plan old new failure) → IfSome known (HasPlainFault plan)
-  failed_faulty TooManyFiles one fails = absurd (omega arith)
-  failed_faulty (Unreadable source) one fails = absurd (omega arith)
-  failed_faulty (TooLarge source) one fails = absurd (omega arith)
-  failed_faulty OutOfMemory one fails = absurd (omega arith)
-  failed_faulty NoThread one fails = absurd (omega arith)
-  failed_faulty (Unfinished source) one fails = absurd (omega arith)
-  failed_faulty Faults one fails = fails
-  failed_faulty (Output fault) one fails = absurd (omega arith)
-
-  pub failed_front : (failure : Failure) → status_of failure ≡ 3 → KeepsOutput old new failure → IfSome known (Fails plan old new failure)
-      → Keeps old new ⊎ IfSome known (ShowsFront plan old new)
-  failed_front TooManyFiles three kept fails = inl kept
-  failed_front (Unreadable source) three kept fails = inl kept
-  failed_front (TooLarge source) three kept fails = inl kept
-  failed_front OutOfMemory three kept fails = inl kept
-  failed_front NoThread three kept fails = inl kept
-  failed_front (Unfinished source) three kept fails = inl kept
-  failed_front Faults three kept fails = inl kept
-  failed_front (Output fault) three kept fails = inr fails
+use Rattle.flame_tool.specs.Runs.{lists_of, wanted_lists, text_of, GainsFront, IsClean, IsFault, Shows, ShowsFront, ShowsSamples, IsOfSamples}
 
 -- ---- a text without snapshots
 

@@ -1,7 +1,7 @@
 -- Sources without a strict fault have no fault.
-use Rattle.std.proofs.Common.{◌≡◌, ℕ, List, [], ◌∷◌, length, Option, Some, None, ap, refl, true, false, ◌||◌}
-use Rattle.std.proofs.lemmas.Bool.{true≢false}
-use Rattle.std.specs.Prelude.{Bool, is_some}
+use Rattle.std.proofs.Common.{◌≡◌, ℕ, List, [], ◌∷◌, length, Option, Some, None, ap, refl, false, ◌||◌}
+use Rattle.std.proofs.lemmas.Bool.{or_parts}
+use Rattle.std.specs.Prelude.{is_some}
 use Rattle.std.specs.List.{list_any}
 use Rattle.stack_core.specs.Reading.{Rest}
 use Rattle.stack_core.specs.declared.endings.SourceEnd.{SourceEnd}
@@ -17,9 +17,9 @@ use Rattle.source_lists.specs.Strictness.{fault_of_rest, source_fault}
 use Rattle.source_views.specs.Failures.{ends_in_fault}
 use Rattle.flame_tool.specs.StrictRuns.{has_strict_fault}
 
-none_of : {A : Type 0} (found : Option A) → is_some found ≡ false → found ≡ None
+pub none_of : {A : Type 0} (found : Option A) → is_some found ≡ false → found ≡ None
 none_of None none = refl
-none_of (Some x) none = absurd (true≢false none)
+none_of (Some x) none = cc
 
 clean_profile : (at : ℕ) (ending : SourceEnd) (samples : List Sample) → fault_of_rest at (record { samples = samples; ending = ending }) ≡ None → ends_in_fault ending ≡ false
 clean_profile at (ends.Clean ignored) samples none = refl
@@ -32,12 +32,8 @@ clean_source options (Pprof, bytes) none =
     let rest = read_pprof bytes options.pick options.naming in
     clean_profile (length bytes) rest.ending rest.samples none
 
-neither : (a b : Bool) → (a || b) ≡ false → (a ≡ false) × (b ≡ false)
-neither true b none = absurd (true≢false none)
-neither false b none = (refl, none)
-
 pub clean_sources : (options : Options) (sources : List (Format × List ℕ)) → has_strict_fault options sources ≡ false → list_any (λ (rest : Rest). ends_in_fault rest.ending) (asked_rests options sources) ≡ false
 clean_sources options [] none = refl
 clean_sources options (source ∷ sources) none =
-    let both = neither (is_some (source_fault options source)) (has_strict_fault options sources) none in
+    let both = or_parts (is_some (source_fault options source)) (has_strict_fault options sources) none in
     (λ i. clean_source options source (none_of (source_fault options source) both.0) i || clean_sources options sources both.1 i)

@@ -1,11 +1,10 @@
 -- What is told of the sources of a run is what their bytes say of their endings.
-use Rattle.std.proofs.Common.{◌≡◌, ◌∙◌, ◌++◌, ◌+◌, ◌<◌, ℕ, take, get_or, length, length-take-le, Bool, List, [], ◌∷◌, Option, map, ap, arith, refl, subst, sym, true, false}
+use Rattle.std.proofs.Common.{◌≡◌, ◌∙◌, ◌++◌, ◌+◌, ◌<◌, ℕ, take, get_or, length, length-take-le, Bool, List, Option, map, ap, arith, refl, subst, sym, true, false}
 use Rattle.command_line.specs.declared.plans.Plan.{Plan}
 use Rattle.std.proofs.lemmas.Bool.{true≢false}
 use Rattle.std.proofs.lemmas.List.{take_more}
 use Rattle.std.specs.List.{AllZip}
 use Rattle.stack_core.specs.Ledgers.{ListState}
-use Rattle.stack_core.specs.Reading.{Rest}
 use Rattle.run_options.specs.declared.formats.Format.{Format}
 use Rattle.ring_collect.specs.Collection.{seen_as_rest}
 use Rattle.source_lists.specs.Sources.{asked_rests}

@@ -2,7 +2,7 @@
 use Rattle.std.proofs.Common.{◌≡◌, ◌≤◌, ◌<◌, ◌≢◌, ◌==◌, ◌+◌, ◌-◌, ◌^◌, ◌∙◌, ◌||◌, ℕ, zero, suc, Bool, true, false, List, [], ◌∷◌, Option, Some, None, All, ap, arith, inl, inr, length, map, min, refl, subst, sym}
 use Rattle.std.specs.Prelude.{if◌then◌else◌, slice_get}
 use Rattle.std.specs.List.{flat_map}
-use Rattle.std.proofs.lemmas.Bool.{cases_eq, cases_lt, ne_eqb}
+use Rattle.std.proofs.lemmas.Bool.{cases_eq, cases_lt, ne_eqb, or_parts}
 use Rattle.std.proofs.Math.Nat.{min-eq_left, min-eq_right}
 use Rattle.std.proofs.lemmas.List.{length-map}
 use Rattle.std.proofs.lemmas.List.Folds.{flat_map-map}
@@ -23,7 +23,6 @@ use Rattle.ring_collect.specs.Collection.{EndOfSource}
 use Rattle.live_lines.specs.Ends.{ToldEnd, has_lost, heard_of_each}
 use Rattle.flame_tool.specs.ToldLive.{IsOfSome, IsSaidOfEach, is_stopped, message_of_end, said_at}
 use Rattle.flame_tool.specs.checked.LiveSaying.{AreSomeTold, AreTold, IsTellableList, end_of, message_of_counted, message_of_list, said_of_ends, said_of_told, tellable_count}
-use Rattle.flame_tool.proofs.KnownSources.{neither}
 use Rattle.flame_tool.proofs.EachSaid.{first_or, held_at, said_alike, said_in_order, said_of_pairs}
 
 -- ---- ends, by their sources
@@ -175,12 +174,12 @@ module _ (plan : Plan) (lists : List ListState) (told : List ToldEnd) (are : Are
 -- where none was lost, none is at any place
 unlost_held : (xs : List ToldEnd) → has_lost xs ≡ false → (first_or no_end xs).is_lost ≡ false
 unlost_held [] none = refl
-unlost_held (end ∷ xs) none = (neither end.is_lost (has_lost xs) none).0
+unlost_held (end ∷ xs) none = (or_parts end.is_lost (has_lost xs) none).0
 
 unlost_source : (source : ℕ) (told : List ToldEnd) → has_lost told ≡ false → has_lost (of_source source (by_source told)) ≡ false
 unlost_source source [] none = refl
 unlost_source source (end ∷ told) none =
-    let both = neither end.is_lost (has_lost told) none in
+    let both = or_parts end.is_lost (has_lost told) none in
     let behind = unlost_source source told both.1 in
     elim (cases_eq end.source source) [
       | inl same ↦ ap has_lost (of_source_at source end.source end (by_source told) same) ∙ (λ i. both.0 i || behind i)

@@ -1,8 +1,8 @@
 -- How a run ends that is asked for the sample types of a profile.
-use Rattle.std.proofs.Common.{◌≡◌, ◌∙◌, ◌⊎◌, inl, inr, ℕ, Bool, true, false, true≢false, List, [], ◌∷◌, length, Option, Some, None, Result, Ok, Err, IfSome, IfErr, IfOk, OnOk, ap, sym, subst, refl, arith, take, get_or, map, ◌<◌}
+use Rattle.std.proofs.Common.{◌≡◌, ◌∙◌, ℕ, Bool, true, false, true≢false, List, [], ◌∷◌, length, Option, Some, None, Result, Ok, Err, IfSome, IfErr, IfOk, OnOk, ap, sym, subst, refl, arith, take, get_or, map, ◌<◌}
 use Rattle.std.specs.Prelude.{option_and_then, option_map, slice_get}
 use Rattle.std.proofs.lemmas.List.{get_or-map, length-map}
-use Rattle.std.specs.Io.KnownBytes.{Appends, Keeps}
+use Rattle.std.specs.Io.KnownBytes.{Appends}
 use Rattle.stack_core.specs.Reading.{Rest}
 use Rattle.run_options.specs.declared.choices.Pick.{Pick}
 use Rattle.run_options.specs.declared.choices.Pick.TheVariants.{Preferred}
@@ -24,9 +24,9 @@ use Rattle.view_texts.specs.Types.{types_text}
 use Rattle.flame_tool.specs.KnownFacts.{bytes_of, known_sources}
 use Rattle.flame_tool.specs.Runs.{HasFault, IsFault, Shows, ShowsFront, ShowsSamples}
 use Rattle.flame_tool.specs.StrictRuns.{HasPlainFault}
-use Rattle.flame_tool.specs.TypeRuns.{HasTableFault, ShowsTypes, ShowsTypesFront, known_profile, table_fault}
-use Rattle.flame_tool.specs.checked.Failures.{Fails, KeepsOutput, TellsGrowth}
-use Rattle.source_views.specs.Failures.{Sends, status_of}
+use Rattle.flame_tool.specs.TypeRuns.{HasTableFault, ShowsTypes, known_profile, table_fault}
+use Rattle.flame_tool.specs.checked.Failures.{Fails, TellsGrowth}
+use Rattle.source_views.specs.Failures.{Sends}
 use Rattle.flame_tool.specs.checked.TypeFailures.{FailsTypes}
 use Rattle.source_views.specs.declared.failures.Failure.{Failure}
 use Rattle.source_views.specs.declared.failures.Failure.TheVariants.{TooManyFiles, Unreadable, TooLarge, OutOfMemory, NoThread, Unfinished, Faults, Output}
@@ -124,30 +124,6 @@ pub types_unlimited : (P : Type 0) (result : Result Bool Failure) → IfOk resul
 types_unlimited P (Ok is_over) none = λ over. absurd (true≢false (sym over ∙ none))
 types_unlimited P (Err failure) none = tt
 
--- ---- a failed run of such a plan
-
-module _ (P : Type 0) (known : Option (List ℕ)) (old new : Option (List ℕ)) where
-  pub types_faulty : (failure : Failure) → status_of failure ≡ 1 → (P → IfSome known (FailsTypes old new failure)) → P → IfSome known HasTableFault
-  types_faulty TooManyFiles one fails = absurd (omega arith)
-  types_faulty (Unreadable source) one fails = absurd (omega arith)
-  types_faulty (TooLarge source) one fails = absurd (omega arith)
-  types_faulty OutOfMemory one fails = absurd (omega arith)
-  types_faulty NoThread one fails = absurd (omega arith)
-  types_faulty (Unfinished source) one fails = absurd (omega arith)
-  types_faulty Faults one fails = fails
-  types_faulty (Output fault) one fails = absurd (omega arith)
-
-  pub types_front : (failure : Failure) → status_of failure ≡ 3 → KeepsOutput old new failure → (P → IfSome known (FailsTypes old new failure))
-      → Keeps old new ⊎ (P → IfSome known (ShowsTypesFront old new))
-  types_front TooManyFiles three kept fails = inl kept
-  types_front (Unreadable source) three kept fails = inl kept
-  types_front (TooLarge source) three kept fails = inl kept
-  types_front OutOfMemory three kept fails = inl kept
-  types_front NoThread three kept fails = inl kept
-  types_front (Unfinished source) three kept fails = inl kept
-  types_front Faults three kept fails = inl kept
-  types_front (Output fault) three kept fails = inr fails
-
 -- ---- the text of the types of a profile without a fault
 
 module _ {T : Type 0} (profile : List ℕ) (types : SampleTypes) (old new : Option (List ℕ)) (faultless : table_fault profile ≡ None) (same : types ≡ all_types profile) where
@@ -192,7 +168,3 @@ pub known_err : {T : Type 0} (P : Failure → List ℕ → Type 0) (files : List
     → IfSome (files path) (λ known. bytes ≡ known) → IfErr result (λ failure. P failure bytes) → IfErr result (λ failure. IfSome (option_and_then files (slice_get paths 0)) (P failure))
 known_err P files paths path bytes (Ok done) is same holds = tt
 known_err P files paths path bytes (Err failure) is same holds = known_bytes (P failure) files paths path bytes is same holds
-
-pub some_path : {A : Type 0} (bytes : A → List ℕ) (paths : List A) (files : List (List ℕ)) → map bytes paths ≡ files → length files ≡ 1 → 0 < length paths
-some_path bytes [] files is one = absurd (omega (arith, ap length is ∙ one))
-some_path bytes (path ∷ paths) files is one = omega arith

@@ -1,5 +1,5 @@
 //! What is said on standard error of how streams ended.
-ghost use Rattle.std.specs.Prelude.{◌≡◌, ◌∷◌, ◌++◌, [], false, true, length, map, string_bytes};
+ghost use Rattle.std.specs.Prelude.{◌≡◌, [], false, true, length, map, string_bytes};
 ghost use Rattle.std.specs.List.{zip};
 ghost use Rattle.folded_lines.specs.StrictStreams.{strict_ending_fault};
 ghost use Rattle.source_views.specs.Messages.{Tells, message_of_strict_fault};

@@ -1,5 +1,5 @@
 //! A run of a plan.
-ghost use Rattle.std.specs.Prelude.{◌≡◌, ◌≢◌, ◌≤◌, ◌<◌, false, IfSome, IfErr, IsErrOf, OnOk, length};
+ghost use Rattle.std.specs.Prelude.{◌≡◌, ◌≢◌, ◌≤◌, ◌<◌, false, IfSome, IsErrOf, length};
 ghost use Rattle.command_line.specs.Plans.{IsComparison, IsOfOneProfile};
 ghost use Rattle.flame_tool.specs.KnownFacts.{known_sources};
 ghost use Rattle.flame_tool.specs.KnownRuns.{PlanShows, as_files, change};
@@ -11,11 +11,11 @@ use crate::advice::Advice;
 use crate::exits::end_run;
 use crate::hosts::Host;
 use crate::types_run::show_types;
-use crate::views_run::show_views;
+use crate::views_run::{form_tells, show_sources};
 use byte_io::{Files, Outlet};
 use command_line::{Form, Plan};
 use run_options::Format;
-use source_views::{Failure, report_awaited_input};
+use source_views::{Failure, load_sources, report_awaited_input};
 use std::sync::Wait;
 use std::thread::Threads;
 
@@ -88,6 +88,12 @@ fn show_plan<T: Threads + Wait + Copy + Send + 'static, F: Files, W: Outlet, E: 
         | Form::Live
         | Form::Callers(_)
         | Form::Callees(_)
-        | Form::Peek(_) => show_views(host, plan, files, out, err, words),
+        | Form::Peek(_) => {
+            let tells_types = form_tells(&plan.form, plan.view);
+            let paths = plan.files.get();
+            let inputs = load_sources(host.alloc, files, paths, plan.format, tells_types)?;
+            let advice = Advice::new(words, files.is_error_terminal());
+            show_sources(host, plan, inputs, out, err, advice)
+        }
     }
 }

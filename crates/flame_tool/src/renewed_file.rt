@@ -1,8 +1,7 @@
 //! A file that is renewed: its place is taken by one text after the other.
 ghost use Rattle.std.specs.Prelude.{◌≡◌, [], ℕ, List, Some, IfOk, IsSome, IsTrue, OnOk, string_bytes};
 ghost use Rattle.std.specs.Io.{WritesAtMost};
-ghost use Rattle.std.specs.Io.KnownBytes.{Keeps, WriteAppends};
-ghost use Rattle.byte_io.specs.Outputs.{PlacedFile};
+ghost use Rattle.std.specs.Io.KnownBytes.{WriteAppends};
 ghost use Rattle.flame_tool.specs.checked.RenewalProps.{at_prop};
 ghost use Rattle.flame_tool.specs.checked.Renewals.{AreAt, IsAt, IsBetween, IsGrown, Renews, all_bytes, files_since, renewal_bytes};
 

@@ -14,7 +14,7 @@ use crate::reports::report_growth;
 use crate::run_facts::RunFacts;
 use crate::sent_pages::send_asked_page;
 use crate::sent_pictures::{AskedPicture, send_asked_picture};
-use crate::sent_texts::{AskedCalls, send_asked_calls, send_asked_peek, send_asked_view};
+use crate::sent_texts::{send_asked_calls, send_asked_peek, send_asked_view};
 use byte_io::Outlet;
 use command_line::{Form, Plan};
 use function_sums::CallSide;
@@ -82,23 +82,11 @@ fn send_form<T: Threads, W: Outlet>(
         }
         Form::Callers(table) => {
             let side = CallSide::Callers;
-            let asked = AskedCalls {
-                plan,
-                facts,
-                side,
-                table,
-            };
-            send_asked_calls(&workers, alloc, run, &asked, out)
+            send_asked_calls(&workers, alloc, run, plan, facts, side, table, out)
         }
         Form::Callees(table) => {
             let side = CallSide::Callees;
-            let asked = AskedCalls {
-                plan,
-                facts,
-                side,
-                table,
-            };
-            send_asked_calls(&workers, alloc, run, &asked, out)
+            send_asked_calls(&workers, alloc, run, plan, facts, side, table, out)
         }
         Form::Peek(table) => send_asked_peek(&workers, alloc, run, plan, facts, table, out),
         Form::Page(page) => send_asked_page(alloc, run, plan, facts, page, out),

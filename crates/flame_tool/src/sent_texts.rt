@@ -42,41 +42,26 @@ pub(crate) fn send_asked_view<H: Workers, W: Outlet>(
     send_view(workers, alloc, Shown::given(sources), &asked, out)
 }
 
-// A function of a plan whose calls are sent.
-#[derive(Clone, Copy)]
-pub(crate) struct AskedCalls<'a> {
-    pub(crate) plan: &'a Plan,
-    pub(crate) facts: &'a RunFacts,
-    pub(crate) side: CallSide,
-    pub(crate) table: &'a CallTable,
-}
-
-// Sends the text of the calls that a plan asks for.
+// Sends the text of the calls of a function that a plan asks for, on this side of it.
 pub(crate) fn send_asked_calls<H: Workers, W: Outlet>(
     workers: &H,
     alloc: Global,
     sources: SourceLists,
-    asked: &AskedCalls<'_>,
+    plan: &Plan,
+    facts: &RunFacts,
+    side: CallSide,
+    table: &CallTable,
     out: &mut W,
 ) -> Result<(), Failure>
-    ensures sent { Sends (called_text asked.now.side asked.now.table.now asked.now.plan.now asked.now.facts.now (samples_of sources.lists))
+    ensures sent { Sends (called_text side table.now plan.now facts.now (samples_of sources.lists))
         (W.contents out.old) (W.contents out.new) result }
     ensures flushed { Flushes (W.is_flushed out.new) (W.failures out.old) (W.failures out.new)
         result }
 {
-    let (plan, facts) = (asked.plan, asked.facts);
     let (files, types) = (plan.files.get(), facts.types.get());
     let described = described_sources(alloc, files, plan.unit, types, &sources)?;
     let telling = telling(plan, facts, &described);
-    send_calls(
-        workers,
-        alloc,
-        sources,
-        asked.side,
-        asked.table,
-        &telling,
-        out,
-    )
+    send_calls(workers, alloc, sources, side, table, &telling, out)
 }
 
 // Sends the text of a function with its callers and its callees, as a plan asks for it.

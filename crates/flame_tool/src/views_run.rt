@@ -1,5 +1,5 @@
 //! The samples of the sources of a plan, collected and shown.
-ghost use Rattle.std.specs.Prelude.{◌≡◌, ◌≢◌, ◌≤◌, ◌<◌, ℕ, false, IfOk, IfSome, Some, IfErr, IsErrOf, OnOk, is_some, length, map, not, true, IsSome};
+ghost use Rattle.std.specs.Prelude.{◌≡◌, ◌≤◌, ◌<◌, ℕ, false, IfOk, IfSome, Some, IfErr, IsErrOf, OnOk, is_some, length, map, not, true, IsSome};
 ghost use Rattle.std.specs.List.{AllZip, list_any};
 ghost use Rattle.command_line.specs.Plans.{IsComparison};
 ghost use Rattle.ring_collect.specs.Collection.{AreWhole, seen_as_rest};
@@ -7,7 +7,6 @@ ghost use Rattle.source_lists.specs.Sources.{asked_rests, known_inputs, whole_we
 ghost use Rattle.source_lists.specs.Strictness.{source_fault};
 ghost use Rattle.flame_tool.specs.checked.Saying.{TellsEndings};
 ghost use Rattle.source_lists.specs.Types.{types_of};
-ghost use Rattle.flame_tool.specs.KnownFacts.{known_sources};
 ghost use Rattle.flame_tool.specs.StrictRuns.{has_strict_fault};
 ghost use Rattle.flame_tool.specs.checked.SummedPlans.{is_summed, is_summed_view};
 ghost use Rattle.source_lists.specs.Summing.{IsFound};
@@ -22,54 +21,19 @@ use crate::progress::Progress;
 use crate::reports::{report_endings, report_strict_faults};
 use crate::run_facts::RunFacts;
 use crate::sent_lists::send_lists;
-use byte_io::{Files, Outlet};
+use byte_io::Outlet;
 use command_line::{Form, Plan, View};
 use profile_messages::SampleType;
 use ring_collect::CollectFault;
-use source_lists::{
-    Gating, Input, Run, RunFault, StrictFault, chosen_types, read, read_sums, strict_faults,
-};
-use source_views::{Failure, load_sources};
-use stack_core::{Listed, NoSink, OpenGate, SourceList};
+use source_lists::{Input, Run, RunFault, StrictFault, chosen_types, read_open, strict_faults};
+use source_views::Failure;
+use stack_core::{Listed, NoSink, SourceList};
 use std::alloc::{AllocError, Global};
 use std::sync::Wait;
 use std::thread::Threads;
 
-// Reads the sources, and shows them.
-pub(crate) fn show_views<T: Threads + Wait + Copy + Send + 'static, F: Files, W: Outlet, E: Outlet>(
-    host: &Host<'_, T>,
-    plan: &Plan,
-    files: &mut F,
-    out: &mut W,
-    err: &mut E,
-    words: &[String],
-) -> Result<bool, Failure>
-    requires pairs { IsComparison plan.now.view → length plan.now.files ≡ 2 }
-    requires every { IfSome plan.now.options.every (λ every. 1 ≤ every) }
-    ensures showed { Showed plan.now
-        (known_sources plan.now (F.known_input files.old) (F.known_file files.old))
-        (F.may_have_terminal ≡ false)
-        (change (W.contents out.old) (W.contents out.new) (W.failures out.old) (W.failures out.new))
-        (change (E.contents err.old) (E.contents err.new) (E.failures err.old) (E.failures err.new))
-        (W.is_flushed out.new) result }
-    ensures many { IsErrOf result Failure.TooManyFiles → 64 < length plan.now.files }
-    ensures few { result ≢ Err Failure.TooManyFiles → length plan.now.files ≤ 64 }
-    ensures untold_many { IsErrOf result Failure.TooManyFiles → err.new ≡ err.old }
-{
-    let tells_types = form_tells(&plan.form, plan.view);
-    let inputs = load_sources(
-        host.alloc,
-        files,
-        plan.files.get(),
-        plan.format,
-        tells_types,
-    )?;
-    let advice = Advice::new(words, files.is_error_terminal());
-    show_sources(host, plan, inputs, out, err, advice)
-}
-
 // Collects the samples of sources, sends the view of them, and says which functions grew over the plan's limit, and whether some did.
-fn show_sources<T: Threads + Wait + Copy + Send + 'static, W: Outlet, E: Outlet>(
+pub(crate) fn show_sources<T: Threads + Wait + Copy + Send + 'static, W: Outlet, E: Outlet>(
     host: &Host<'_, T>,
     plan: &Plan,
     inputs: Vec<Input>,
@@ -106,7 +70,8 @@ fn show_sources<T: Threads + Wait + Copy + Send + 'static, W: Outlet, E: Outlet>
     send_lists(host, shown, plan, &facts, out, err)
 }
 
-// Reads the sources, and tells how far that is on a terminal, unless it is to be quiet.
+// Reads the sources, and tells how far that is on a terminal, unless it is to be quiet: then it sums the weights of equal stacks where the
+// plan asks for no more.
 fn read_sources<T: Threads + Wait + Copy + Send + 'static, E: Outlet>(
     host: &Host<'_, T>,
     plan: &Plan,
@@ -128,48 +93,16 @@ fn read_sources<T: Threads + Wait + Copy + Send + 'static, E: Outlet>(
         → source < length inputs.items }
     ensures untold { advice.entry.is_wanted ≡ false → err.new ≡ err.old }
 {
+    let (rt, alloc) = (host.rt, host.alloc);
+    let options = &plan.options;
     if plan.is_quiet || !advice.is_wanted() {
-        return read_quietly(host, plan, inputs);
+        let sink = &mut NoSink::new();
+        return read_open(rt, alloc, inputs, options, is_summed(plan), sink);
     }
     let mut progress = Progress::new(err, plan.files.get());
-    let gating = Gating::<OpenGate>::Open;
-    let run = read(
-        host.rt,
-        host.alloc,
-        inputs,
-        &plan.options,
-        gating,
-        &mut progress,
-    );
+    let run = read_open(rt, alloc, inputs, options, false, &mut progress);
     progress.clear();
     run
-}
-
-// Reads the sources, and sums the weights of equal stacks where the plan asks for no more.
-fn read_quietly<T: Threads + Wait + Copy + Send + 'static>(
-    host: &Host<'_, T>,
-    plan: &Plan,
-    inputs: Vec<Input>,
-) -> Result<Run, RunFault>
-    requires { length inputs.items ≤ 64 }
-    ensures found { IfOk result (λ run. IfSome (known_inputs inputs.items) (λ sources.
-        AllZip (IsFound (is_summed plan.now)) (asked_rests plan.now.options sources)
-        (map seen_as_rest run.kept.lists))) }
-    ensures weight { IfOk result (λ run. IfSome (known_inputs inputs.items) (λ sources.
-        run.whole_weight ≡ Some (whole_weight plan.now.options sources))) }
-    ensures weighed { IfOk result (λ run. IsSome run.whole_weight) }
-    ensures count { IfOk result (λ run. length run.kept.lists ≡ length inputs.items) }
-    ensures refused { (source : ℕ) → IsErrOf result (RunFault.Collect (CollectFault.Unfinished source))
-        → source < length inputs.items }
-    ensures unreadable { (source : ℕ) → IsErrOf result (RunFault.Unreadable source)
-        → source < length inputs.items }
-{
-    let (rt, alloc) = (host.rt, host.alloc);
-    if is_summed(plan) {
-        return read_sums(rt, alloc, inputs, &plan.options);
-    }
-    let gating = Gating::<OpenGate>::Open;
-    read(rt, alloc, inputs, &plan.options, gating, &mut NoSink::new())
 }
 
 // Whether the plan asks for the weights of stacks alone, and not for samples in their order.
@@ -273,7 +206,7 @@ fn told_types(alloc: Global, plan: &Plan, inputs: &[Input]) -> Result<Vec<Sample
     }
 }
 
-fn form_tells(form: &Form, view: View) -> bool
+pub(crate) fn form_tells(form: &Form, view: View) -> bool
     ensures { result ≡ form_tells form.now view }
 {
     match form {

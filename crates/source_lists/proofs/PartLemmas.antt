@@ -1,9 +1,9 @@
 -- Lists of the parts of a source, one after another.
-use Rattle.std.proofs.Common.{◌≡◌, ◌≤◌, ◌∙◌, ◌+◌, ℕ, suc, Bool, ap, arith, refl, subst, sym, map, All, List, [], ◌∷◌, ◌++◌, Option, Some, None, IfOk, IfSome, Ok, Err, Result}
+use Rattle.std.proofs.Common.{◌≡◌, ◌≤◌, ◌∙◌, ◌+◌, ℕ, suc, Bool, ap, arith, refl, get_or, subst, sym, length, map, All, List, [], ◌∷◌, ◌++◌, Option, Some, None, IfOk, IfSome, Ok, Err, Result}
 use Rattle.std.specs.Prelude.{option_and_then, option_map}
 use Rattle.std.specs.declared.alloc.AllocError.{AllocError}
 use Rattle.std.specs.List.{AllZip}
-use Rattle.std.proofs.lemmas.List.{append-nil}
+use Rattle.std.proofs.lemmas.List.{append-nil, length-map}
 use Rattle.std.proofs.lemmas.List.Elements.{All-append, All-cons, All-nil}
 use Rattle.std.proofs.lemmas.List.Sums.{sum_by_push}
 use Rattle.std.proofs.lemmas.Grind.{flat_map-append}
@@ -12,6 +12,7 @@ use Rattle.sample_tables.specs.declared.samples.TheConstants.{WEIGHT_LIMIT}
 use Rattle.stack_core.specs.Parts.{IsClean, ReadsInParts, ignored_of, joined, samples_of_parts}
 use Rattle.stack_core.specs.Ledgers.{ListState}
 use Rattle.stack_core.specs.Reading.{IsSourceLimited, Rest}
+use Rattle.stack_core.specs.RowReading.{GivesSome}
 use Rattle.stack_core.specs.declared.endings.SourceEnd.TheVariants.{Clean, Stopped}
 use Rattle.ring_collect.specs.Collection.{AreGiven, seen_as_rest}
 use Rattle.ring_collect.proofs.GivenRests.{known_rests}
@@ -28,9 +29,11 @@ use Rattle.source_lists.specs.Runs.{IsReadOut}
 use Rattle.source_lists.specs.Sources.{known_input, read_bytes, whole_rest, whole_rests}
 use Rattle.source_lists.specs.Summing.{IsFound}
 use Rattle.source_lists.specs.checked.OpenRuns.{ReadsOpen}
-use Rattle.source_lists.specs.checked.PartRuns.{ArePartsFound, FindsPartsOf}
+use Rattle.source_lists.specs.checked.InputReaders.{input_gives, input_told}
+use Rattle.source_lists.specs.checked.PartRuns.{AreOfParts, ArePartsFound}
 use Rattle.source_lists.specs.checked.Parts.{AreCleanParts, ArePartsOf, ignored_by}
 use Rattle.source_lists.specs.checked.SummedRuns.{FindsGiven}
+use Rattle.source_lists.specs.declared.input_readers.InputReader.{InputReader}
 use Rattle.source_lists.specs.declared.part_runs.CleanParts.{CleanParts}
 use Rattle.source_lists.proofs.KnownInputs.{if_some}
 use Rattle.source_lists.proofs.FoundRests.{alike_parts, alike_total, found_clean, found_joined}
@@ -97,16 +100,57 @@ stored_parts {R} gives readers text reads limited parts ignored given clean = re
   limited = record { each = each_limited parts (all_given gives (λ rest. IsSourceLimited rest.samples) readers parts limited given); total = clean.weight };
 }
 
--- of a run of them
-pub parts_of_run : {R : Type 0} (gives : R → Rest → Type 0) (readers : List R) (whole : Option Rest)
-    → ((parts : List Rest) (ignored : ℕ) → AreGiven gives readers parts → AreCleanParts parts ignored → ArePartsOf whole parts ignored)
-    → (is_summed : Bool) (result : Result (Option CleanParts) AllocError) → IfOk result (λ found. IfSome found (λ parts. FindsGiven gives is_summed readers (map seen_as_rest parts.lists.items)))
-    → IfOk result (λ found. IfSome found (λ parts. AreCleanParts (map seen_as_rest parts.lists.items) parts.ignored)) → FindsPartsOf is_summed whole result
-parts_of_run gives readers whole so is_summed (Err error) given clean = tt
-parts_of_run gives readers whole so is_summed (Ok None) given clean = tt
-parts_of_run gives readers whole so is_summed (Ok (Some parts)) given clean = record {
+-- ---- their readers as readers of inputs
+
+module _ {R : Type 0} (wrap : R → InputReader) where
+  all_wrapped : (parts : List R) (readers : List InputReader) → AllZip (λ part reader. reader ≡ wrap part) parts readers → readers ≡ map wrap parts
+  all_wrapped [] [] zip = refl
+  all_wrapped [] (reader ∷ readers) zip = absurd zip
+  all_wrapped (part ∷ parts) [] zip = absurd zip
+  all_wrapped (part ∷ parts) (reader ∷ readers) zip = λ i. zip.0 i ∷ all_wrapped parts readers zip.1 i
+
+  given_wrapped : (parts : List R) (rests : List Rest) → AreGiven input_gives (map wrap parts) rests → AreGiven (λ part rest. input_gives (wrap part) rest) parts rests
+  given_wrapped [] [] given = tt
+  given_wrapped [] (rest ∷ rests) given = absurd given
+  given_wrapped (part ∷ parts) [] given = absurd given
+  given_wrapped (part ∷ parts) (rest ∷ rests) given = (given.0, given_wrapped parts rests given.1)
+
+  wrapped_all : (P : InputReader → Type 0) (parts : List R) → All (λ part. P (wrap part)) parts → All P (map wrap parts)
+  wrapped_all P [] all = All-nil P
+  wrapped_all P (part ∷ parts) all = All-cons P (wrap part) (map wrap parts) (all 0 part (omega arith)) (wrapped_all P parts (λ k d within. all (suc k) d (omega (arith, within))))
+
+  pub readers_of_parts : (whole : Option Rest) (parts : List R) (readers : List InputReader) → AllZip (λ part reader. reader ≡ wrap part) parts readers → length parts ≤ 64
+      → All (λ part. input_told (wrap part) ≡ record { names = []; stacks = [] }) parts → All (λ part. GivesSome (input_gives (wrap part))) parts
+      → ((rests : List Rest) (ignored : ℕ) → AreGiven (λ part rest. input_gives (wrap part) rest) parts rests → AreCleanParts rests ignored → ArePartsOf whole rests ignored) → AreOfParts whole readers
+  readers_of_parts whole parts readers zip few told possible reads =
+      subst (AreOfParts whole) (sym (all_wrapped parts readers zip)) (record {
+        can_run = record {
+          few = omega (arith, few, length-map parts wrap);
+          nothing_told = wrapped_all (λ reader. input_told reader ≡ record { names = []; stacks = [] }) parts told;
+          possible = wrapped_all (λ reader. GivesSome (input_gives reader)) parts possible;
+        };
+        reads = λ rests ignored given clean. reads rests ignored (given_wrapped parts rests given) clean;
+      })
+
+-- readers of rows that are known
+pub known_readers : {R : Type 0} (wrap : R → InputReader) (rest_of : R → Rest) → ((reader : R) (rest : Rest) → input_gives (wrap reader) rest → rest ≡ rest_of reader)
+    → ((reader : R) → input_gives (wrap reader) (rest_of reader)) → (whole other : Rest) (parts : List R) (readers : List InputReader) → AllZip (λ part reader. reader ≡ wrap part) parts readers → length parts ≤ 64
+    → All (λ part. input_told (wrap part) ≡ record { names = []; stacks = [] }) parts → whole ≡ other → ReadsInParts other (map rest_of parts) → IsSourceLimited whole.samples → AreOfParts (Some whole) readers
+known_readers {R} wrap rest_of no_other gives whole other parts readers zip few told same reads limited =
+    readers_of_parts wrap (Some whole) parts readers zip few told (λ k d within. record { rest = rest_of (get_or parts k d); is_given = gives (get_or parts k d) })
+    (loaded_parts (λ part rest. input_gives (wrap part) rest) rest_of no_other parts whole (subst (λ (whole : Rest). ReadsInParts whole (map rest_of parts)) (sym same) reads) limited)
+
+-- a stored text stands for what it has as folded text
+pub text_whole : (options : Options) (text : Option (List ℕ)) → option_map read_folded text ≡ option_map (whole_rest options) (known_input (Folded, text))
+text_whole options None = refl
+text_whole options (Some all) = refl
+
+-- what a run of them finds
+pub parts_found : (is_summed : Bool) (whole : Option Rest) (readers : List InputReader) (found : List Rest) (ignored : ℕ) → AreOfParts whole readers → FindsGiven input_gives is_summed readers found → AreCleanParts found ignored
+    → ArePartsFound is_summed whole found ignored
+parts_found is_summed whole readers found ignored of given clean = record {
   parts = given.rests;
-  are_parts = so given.rests parts.ignored given.are_given (found_clean is_summed given.rests (map seen_as_rest parts.lists.items) parts.ignored given.are_found clean);
+  are_parts = of.reads given.rests ignored given.are_given (found_clean is_summed given.rests found ignored given.are_found clean);
   are_found = given.are_found;
 }
 
@@ -116,18 +160,15 @@ profile_whole : (text : Option (List ℕ)) (pick : Pick) (naming : Naming) (byte
 profile_whole None pick naming bytes parts is whole = tt
 profile_whole (Some all) pick naming bytes parts is whole = ap (λ bytes. read_pprof bytes pick naming) (sym is) ∙ whole
 
-pub profile_parts : (text : Option (List ℕ)) (options : Options) (bytes : List ℕ) → IfSome text (λ all. bytes ≡ all) → (is_summed : Bool) (result : Result (Option CleanParts) AllocError)
-    → FindsPartsOf is_summed (Some (whole_rest options (Pprof, bytes))) result → FindsPartsOf is_summed (option_map (λ bytes. read_pprof bytes options.pick options.naming) text) result
-profile_parts text options bytes is is_summed (Err error) of = tt
-profile_parts text options bytes is is_summed (Ok None) of = tt
-profile_parts text options bytes is is_summed (Ok (Some parts)) of = record {
-  parts = of.parts;
-  are_parts = record {
-    whole_is = profile_whole text options.pick options.naming bytes of.parts is of.are_parts.whole_is;
-    ignored_is = of.are_parts.ignored_is;
-    limited = of.are_parts.limited;
-  };
-  are_found = of.are_found;
+pub profile_parts : (text : Option (List ℕ)) (options : Options) (bytes : List ℕ) (readers : List InputReader) → IfSome text (λ all. bytes ≡ all) → AreOfParts (Some (whole_rest options (Pprof, bytes))) readers
+    → AreOfParts (option_map (λ bytes. read_pprof bytes options.pick options.naming) text) readers
+profile_parts text options bytes readers is of = record {
+  can_run = of.can_run;
+  reads = λ parts ignored given clean. (let are = of.reads parts ignored given clean in record {
+    whole_is = profile_whole text options.pick options.naming bytes parts is are.whole_is;
+    ignored_is = are.ignored_is;
+    limited = are.limited;
+  });
 }
 
 -- ---- the parts as one list

@@ -8,7 +8,8 @@ use crate::inputs::{Content, Input};
 use crate::source_reader::SourceReader;
 use crate::stored_profile::StoredProfile;
 use byte_io::StoredRange;
-use folded_lines::FoldedStream;
+use folded_lines::{FoldedRows, FoldedStream};
+use profile_tables::PprofRows;
 use run_options::Options;
 use stack_core::{RowReader, RowStep};
 use std::alloc::{AllocError, Global};
@@ -46,6 +47,50 @@ impl InputReader {
             }
         }
     }
+}
+
+impl From<FoldedRows> for InputReader {
+    ghost use Rattle.source_lists.specs.checked.InputReaders.{of_folded};
+
+    ghost from_gives = { λ rows reader. reader ≡ of_folded rows };
+
+    fn from(rows: FoldedRows) -> InputReader {
+        InputReader::Loaded(SourceReader::Folded(rows))
+    }
+}
+
+impl From<PprofRows> for InputReader {
+    ghost use Rattle.source_lists.specs.checked.InputReaders.{of_pprof};
+
+    ghost from_gives = { λ rows reader. reader ≡ of_pprof rows };
+
+    fn from(rows: PprofRows) -> InputReader {
+        InputReader::Loaded(SourceReader::Pprof(rows))
+    }
+}
+
+impl From<FoldedStream<StoredRange>> for InputReader {
+    ghost use Rattle.source_lists.specs.declared.input_readers.InputReader.TheVariants.{Text};
+
+    ghost from_gives = { λ stream reader. reader ≡ Text stream };
+
+    fn from(stream: FoldedStream<StoredRange>) -> InputReader {
+        InputReader::Text(stream)
+    }
+}
+
+/// The same readers as readers of inputs.
+pub(crate) fn as_inputs<R: Into<InputReader> + Drop>(
+    alloc: Global,
+    parts: Vec<R>,
+) -> Result<Vec<InputReader>, AllocError>
+    ensures { IfOk result (λ readers. AllZip (λ part reader. R.converts part reader) parts.items readers.items) }
+{
+    let mut readers = Vec::with_capacity(alloc, parts.len())?;
+    for part in parts {
+        readers.push(part.into())?;
+    }
+    Ok(readers)
 }
 
 /// A reader for each input, which has told nothing.

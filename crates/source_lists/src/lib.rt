@@ -36,7 +36,7 @@ mod unreadable_sources;
 pub use folded_lines::{StrictFault, StrictKind};
 pub use gating::Gating;
 pub use inputs::Input;
-pub use reading::{Run, read, read_sums};
+pub use reading::{Run, read, read_open};
 pub use run_faults::RunFault;
 pub use source_lists::SourceLists;
 pub use source_types::chosen_types;

@@ -1,15 +1,12 @@
 //! The parts of a source that comes alone, read at the same time.
 
-ghost use Rattle.std.specs.Prelude.{◌≡◌, ◌≤◌, ◌<◌, [], All, IfOk, IfSome, Some, length, map, option_map};
+ghost use Rattle.std.specs.Prelude.{◌≡◌, ◌≤◌, ◌<◌, IfOk, IfSome, Some, option_map};
 ghost use Rattle.folded_lines.specs.Reading.{read_folded};
 ghost use Rattle.profile_tables.specs.Samples.{read_pprof};
-ghost use Rattle.ring_collect.specs.Collection.{seen_as_rest};
-ghost use Rattle.ring_collect.specs.checked.WholeRuns.{CanRun};
 ghost use Rattle.source_lists.specs.Sources.{known_input, whole_rest};
-ghost use Rattle.source_lists.specs.checked.Parts.{AreCleanParts};
-ghost use Rattle.source_lists.specs.checked.PartRuns.{FindsPartsOf};
-ghost use Rattle.source_lists.specs.checked.SummedRuns.{FindsGiven};
+ghost use Rattle.source_lists.specs.checked.PartRuns.{AreOfParts, FindsPartsOf};
 
+use crate::input_readers::{InputReader, as_inputs};
 use crate::inputs::{Content, Input};
 use crate::loaded_sources::LoadedSource;
 use crate::part_lists::ignored_by_clean;
@@ -20,9 +17,9 @@ use byte_io::StoredText;
 use folded_lines::{FoldedRows, FoldedStream};
 use profile_tables::PprofRows;
 use ring_collect::CollectFault;
-use run_options::Format;
-use stack_core::{RowReader, RowSink, SourceList};
-use std::alloc::AllocError;
+use run_options::{Format, Options};
+use stack_core::{RowSink, SourceList};
+use std::alloc::{AllocError, Global};
 use std::sync::Wait;
 use std::thread::Threads;
 
@@ -56,25 +53,81 @@ pub(crate) struct CleanParts {
     pub(crate) ignored: u64,
 }
 
-/// The parts, if they can be read so.
-type FoundParts = Result<Option<CleanParts>, AllocError>;
+/// Readers of the parts of a source whose bytes are there.
+fn loaded_readers(
+    alloc: Global,
+    source: &LoadedSource,
+    options: &Options,
+) -> Result<Vec<InputReader>, AllocError>
+    ensures { IfOk result (λ readers. AreOfParts (Some (whole_rest options.now source.now)) readers.items) }
+{
+    let bytes = source.bytes().clone()?;
+    let count = reader_count(bytes.len() as u64);
+    match source.format() {
+        Format::Folded => as_inputs(alloc, FoldedRows::parts(alloc, bytes, count)?),
+        Format::Pprof => {
+            let (pick, naming) = (&options.pick, options.naming);
+            as_inputs(alloc, PprofRows::parts(alloc, bytes, pick, naming, count)?)
+        }
+    }
+}
+
+/// Readers of the parts of a stored text.
+fn stored_readers(alloc: Global, text: &StoredText) -> Result<Vec<InputReader>, AllocError>
+    ensures { IfOk result (λ readers. AreOfParts (option_map read_folded text.now) readers.items) }
+{
+    let count = reader_count(text.len());
+    as_inputs(alloc, FoldedStream::parts(alloc, text, count)?)
+}
+
+/// Readers of the parts of a stored profile, which is loaded for it. `None` where it can't be read.
+fn profile_readers(
+    alloc: Global,
+    text: &StoredText,
+    options: &Options,
+) -> Result<Option<Vec<InputReader>>, AllocError>
+    ensures { IfOk result (λ found. IfSome found (λ readers. let all = options.now in
+        AreOfParts (option_map (λ bytes. read_pprof bytes all.pick all.naming) text.now) readers.items)) }
+{
+    let Some(bytes) = loaded_bytes(alloc, text)? else {
+        return Ok(None);
+    };
+    let format = Format::Pprof;
+    let source = LoadedSource::of(Source { format, bytes })?;
+    Ok(Some(loaded_readers(alloc, &source, options)?))
+}
+
+/// Readers of the parts of an input. `None` where it can't be read.
+fn part_readers(
+    alloc: Global,
+    input: &Input,
+    options: &Options,
+) -> Result<Option<Vec<InputReader>>, AllocError>
+    ensures { IfOk result (λ found. IfSome found (λ readers.
+        AreOfParts (option_map (whole_rest options.now) (known_input input.now)) readers.items)) }
+{
+    match input.content() {
+        Content::Loaded(source) => Ok(Some(loaded_readers(alloc, source, options)?)),
+        Content::Text(text) => Ok(Some(stored_readers(alloc, text)?)),
+        Content::Profile(text) => profile_readers(alloc, text, options),
+    }
+}
 
 impl<T: Threads + Wait + Copy + Send + 'static> Runner<'_, T> {
-    /// Reads parts of a source at the same time, each by its reader. `None` where the source has to be read as one: where a part has a fault,
+    /// Reads parts of an input at the same time, each by its reader. `None` where the input has to be read as one: where a part has a fault,
     /// can't be read to its end, or all weigh too much together, so that the fault is told where it stands, and where a thread was refused.
-    fn read_clean<R: RowReader + Send + Drop + 'static, S: RowSink>(
+    pub(crate) fn read_parts<S: RowSink>(
         &self,
-        readers: Vec<R>,
+        input: &Input,
         sink: &mut S,
-    ) -> FoundParts
-        requires { CanRun R.told R.gives readers.items }
-        ensures given { IfOk result (λ found. IfSome found (λ parts.
-            FindsGiven (λ reader. R.gives reader) self.now.is_summed readers.items
-            (map seen_as_rest parts.lists.items))) }
-        ensures clean { IfOk result (λ found. IfSome found (λ parts.
-            AreCleanParts (map seen_as_rest parts.lists.items) parts.ignored)) }
+    ) -> Result<Option<CleanParts>, AllocError>
+        ensures parts { FindsPartsOf self.now.is_summed
+            (option_map (whole_rest self.now.options.now) (known_input input.now)) result }
         ensures setting { S.setting sink.new ≡ S.setting sink.old }
     {
+        let Some(readers) = part_readers(self.alloc, input, self.options)? else {
+            return Ok(None);
+        };
         match self.run_open(readers, sink) {
             Ok(run) => {
                 let lists = run.lists;
@@ -85,70 +138,6 @@ impl<T: Threads + Wait + Copy + Send + 'static> Runner<'_, T> {
             }
             Err(CollectFault::OutOfMemory) => Err(AllocError),
             Err(CollectFault::NoThread | CollectFault::Unfinished { .. }) => Ok(None),
-        }
-    }
-
-    /// The same of a source whose bytes are there.
-    fn read_loaded_parts<S: RowSink>(&self, source: &LoadedSource, sink: &mut S) -> FoundParts
-        ensures parts { FindsPartsOf self.now.is_summed
-            (Some (whole_rest self.now.options.now source.now)) result }
-        ensures setting { S.setting sink.new ≡ S.setting sink.old }
-    {
-        let bytes = source.bytes().clone()?;
-        let count = reader_count(bytes.len() as u64);
-        match source.format() {
-            Format::Folded => {
-                let readers = FoldedRows::parts(self.alloc, bytes, count)?;
-                self.read_clean(readers, sink)
-            }
-            Format::Pprof => {
-                let options = self.options;
-                let readers = PprofRows::parts(
-                    self.alloc,
-                    bytes,
-                    &options.pick,
-                    options.naming,
-                    count,
-                )?;
-                self.read_clean(readers, sink)
-            }
-        }
-    }
-
-    /// The same of a stored text.
-    fn read_stored_parts<S: RowSink>(&self, text: &StoredText, sink: &mut S) -> FoundParts
-        ensures parts { FindsPartsOf self.now.is_summed
-            (option_map read_folded text.now) result }
-        ensures setting { S.setting sink.new ≡ S.setting sink.old }
-    {
-        let readers = FoldedStream::parts(self.alloc, text, reader_count(text.len()))?;
-        self.read_clean(readers, sink)
-    }
-
-    /// The same of a stored profile, which is loaded for it. `None` also where it can't be read.
-    fn read_profile_parts<S: RowSink>(&self, text: &StoredText, sink: &mut S) -> FoundParts
-        ensures parts { let options = self.now.options.now in FindsPartsOf self.now.is_summed
-            (option_map (λ bytes. read_pprof bytes options.pick options.naming) text.now) result }
-        ensures setting { S.setting sink.new ≡ S.setting sink.old }
-    {
-        let Some(bytes) = loaded_bytes(self.alloc, text)? else {
-            return Ok(None);
-        };
-        let format = Format::Pprof;
-        let source = LoadedSource::of(Source { format, bytes })?;
-        self.read_loaded_parts(&source, sink)
-    }
-
-    /// The same of an input.
-    pub(crate) fn read_parts<S: RowSink>(&self, input: &Input, sink: &mut S) -> FoundParts
-        ensures parts { FindsPartsOf self.now.is_summed
-            (option_map (whole_rest self.now.options.now) (known_input input.now)) result }
-        ensures setting { S.setting sink.new ≡ S.setting sink.old }
-    {
-        match input.content() {
-            Content::Loaded(source) => self.read_loaded_parts(source, sink),
-            Content::Text(text) => self.read_stored_parts(text, sink),
-            Content::Profile(text) => self.read_profile_parts(text, sink),
         }
     }
 }

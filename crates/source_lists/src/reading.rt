@@ -11,7 +11,7 @@ ghost use Rattle.run_options.specs.Filters.{kept_rest};
 ghost use Rattle.source_lists.specs.Lists.{AreLimited};
 ghost use Rattle.source_lists.specs.Runs.{IsOpen, IsReadOut, MayGo, MayStop, ReadsLists};
 ghost use Rattle.source_lists.specs.Sources.{asked_rests, known_inputs, whole_weight};
-ghost use Rattle.source_lists.specs.Summing.{IsFound, IsSummed};
+ghost use Rattle.source_lists.specs.Summing.{IsFound};
 ghost use Rattle.source_lists.specs.checked.OpenRuns.{IsOfReaders, IsOfRun};
 
 use crate::gating::Gating;
@@ -23,7 +23,7 @@ use crate::source_lists::SourceLists;
 use crate::source_readers::{filtered_readers_of, readers_of};
 use ring_collect::{CollectFault, Collected};
 use run_options::Options;
-use stack_core::{Gate, NoSink, RowSink};
+use stack_core::{Gate, RowSink};
 use std::alloc::{AllocError, Global};
 use std::sync::{Arc, Wait};
 use std::thread::Threads;
@@ -75,26 +75,6 @@ impl<T: Threads + Wait + Copy + Send + 'static> Runner<'_, T> {
             let readers = filtered_readers_of(self.alloc, sources, self.options)?;
             self.run_filtered(readers, gate)
         }
-    }
-
-    /// Reads each source to its end.
-    fn read_open<S: RowSink>(&self, inputs: Vec<Input>, sink: &mut S) -> RunResult<Run>
-        requires { length inputs.items ≤ 64 }
-        ensures found { IfOk result (λ run. IfSome (known_inputs inputs.items) (λ sources.
-            AllZip (IsFound self.now.is_summed) (asked_rests self.now.options.now sources)
-            (map seen_as_rest run.kept.lists))) }
-        ensures weight { IfOk result (λ run. IfSome (known_inputs inputs.items) (λ sources.
-            run.whole_weight ≡ Some (whole_weight self.now.options.now sources))) }
-        ensures weighed { IfOk result (λ run. IsSome run.whole_weight) }
-        ensures count { IfOk result (λ run. length run.kept.lists ≡ length inputs.items) }
-        ensures ordered { IfOk result (λ run.
-            IsInterleaving run.kept.order (samples_of run.kept.lists)) }
-        ensures unstopped { IfOk result (λ run. All IsReadOut run.kept.lists) }
-        ensures err { IfErr result (IsOfRun (length inputs.items)) }
-        ensures setting { S.setting sink.new ≡ S.setting sink.old }
-    {
-        let whole = self.collect_all(inputs, sink)?;
-        Ok(kept_run(self.alloc, whole, self.options)?)
     }
 
     /// Reads sources as far as a gate lets them. Texts are loaded before.
@@ -172,29 +152,34 @@ pub fn read<
         → source < length inputs.items }
     ensures setting { S.setting sink.new ≡ S.setting sink.old }
 {
-    let runner = Runner {
-        rt,
-        alloc,
-        options,
-        is_summed: false,
-    };
     match gating {
-        Gating::Open => runner.read_open(inputs, sink),
-        Gating::Asked(gate) => runner.read_asked(inputs, gate, sink),
+        Gating::Open => read_open(rt, alloc, inputs, options, false, sink),
+        Gating::Asked(gate) => {
+            let runner = Runner {
+                rt,
+                alloc,
+                options,
+                is_summed: false,
+            };
+            runner.read_asked(inputs, gate, sink)
+        }
     }
 }
 
-/// The same where the order of samples is not asked for: samples are found that weigh like those of each source, stack by stack. A stack
-/// costs twelve bytes where it comes first and, where it comes again, twelve more for all of its other samples.
-pub fn read_sums<T: Threads + Wait + Copy + Send + 'static>(
+/// The same without a gate. Where it is summed no order is asked for: samples are found that weigh like those of each source, stack by
+/// stack. A stack costs twelve bytes where it comes first and, where it comes again, twelve more for all of its other samples. The sink is
+/// fed with what is found.
+pub fn read_open<T: Threads + Wait + Copy + Send + 'static, S: RowSink>(
     rt: &T,
     alloc: Global,
     inputs: Vec<Input>,
     options: &Options,
+    is_summed: bool,
+    sink: &mut S,
 ) -> Result<Run, RunFault>
     requires { length inputs.items ≤ 64 }
-    ensures sums { IfOk result (λ run. IfSome (known_inputs inputs.items) (λ sources.
-        AllZip IsSummed (asked_rests options.now sources) (map seen_as_rest run.kept.lists))) }
+    ensures found { IfOk result (λ run. IfSome (known_inputs inputs.items) (λ sources.
+        AllZip (IsFound is_summed) (asked_rests options.now sources) (map seen_as_rest run.kept.lists))) }
     ensures weight { IfOk result (λ run. IfSome (known_inputs inputs.items)
         (λ sources. run.whole_weight ≡ Some (whole_weight options.now sources))) }
     ensures weighed { IfOk result (λ run. IsSome run.whole_weight) }
@@ -207,12 +192,14 @@ pub fn read_sums<T: Threads + Wait + Copy + Send + 'static>(
         → source < length inputs.items }
     ensures unreadable { (source : ℕ) → IsErrOf result (RunFault.Unreadable source)
         → source < length inputs.items }
+    ensures setting { S.setting sink.new ≡ S.setting sink.old }
 {
     let runner = Runner {
         rt,
         alloc,
         options,
-        is_summed: true,
+        is_summed,
     };
-    runner.read_open(inputs, &mut NoSink::new())
+    let whole = runner.collect_all(inputs, sink)?;
+    Ok(kept_run(alloc, whole, options)?)
 }

@@ -13,6 +13,9 @@ use Rattle.sample_tables.specs.Rows.{ToldRows}
 use Rattle.run_options.specs.declared.formats.Format.{Format}
 use Rattle.run_options.specs.declared.options.Options.{Options}
 use Rattle.source_lists.specs.Sources.{known_input, whole_rest}
+use Rattle.folded_lines.specs.State as folded
+use Rattle.profile_tables.specs.State as pprof
+use Rattle.source_lists.specs.declared.source_reader.SourceReader.TheVariants.{Folded, Pprof}
 use Rattle.source_lists.specs.checked.Readers.{HasEnded, reader_rest, reader_told}
 use Rattle.source_lists.specs.checked.StoredProfiles.{HasProfileEnded, profile_gives, profile_told}
 use Rattle.source_lists.specs.declared.input_readers.InputReader.{InputReader}
@@ -24,6 +27,13 @@ range = record { remaining = unread_range; failures = λ range. failed_reads ran
 
 abbrev pub stream_gives : FoldedStream StoredRange range → Rest → Type 0
 stream_gives stream rest = GivesBy (unread_range stream.lines.inlet) false stream.lines stream.counts stream.ended rest
+
+-- the readers of bytes that are there
+abbrev pub of_folded : folded.State → InputReader
+of_folded rows = Loaded (Folded rows)
+
+abbrev pub of_pprof : pprof.State → InputReader
+of_pprof rows = Loaded (Pprof rows)
 
 abbrev pub input_gives : InputReader → Rest → Type 0
 input_gives (Loaded reader) rest = rest ≡ reader_rest reader

@@ -1,4 +1,5 @@
-use Rattle.std.proofs.Common.{◌≡◌, ◌∙◌, ℕ, Bool, List, Result, Ok, IfOk, inl, subst, sym}
+use Rattle.std.proofs.Common.{◌≡◌, ◌∙◌, ℕ, Bool, List, Result, Ok, IfOk, inl, map, refl, string_bytes, subst, sym}
+use Rattle.command_line.specs.Destinations.{destination_of}
 use Rattle.command_line.specs.declared.destinations.Destination.{Destination}
 use Rattle.command_line.specs.declared.destinations.Destination.TheVariants.{File, Pages, Standard}
 use Rattle.flame_tool.specs.Delivery.{IfFile, IfPages, IfStandard}
@@ -42,26 +43,14 @@ pub returns-in-Ok-File-clause-file : goal.returns-in-Ok-File-clause-file
 returns-in-Ok-File-clause-file g c =
     of_file _ _ _ (found_is _ _ _ _ (rw c.as_slice.ensures.value at c.asked_destination.ensures) c.in-Ok-File.is c.in-Ok-File.field-0-is) (rw c.get.ensures at c.deliver_file.ensures)
 
-pub returns-in-Ok-Standard-clause-file : goal.returns-in-Ok-Standard-clause-file
-returns-in-Ok-Standard-clause-file g c =
-    no_file _ _ _ (found_is _ _ _ _ (rw c.as_slice.ensures.value at c.asked_destination.ensures) c.in-Ok-Standard.is c.in-Ok-Standard.field-0-is)
-
-pub returns-in-Ok-Standard-clause-standard : goal.returns-in-Ok-Standard-clause-standard
-returns-in-Ok-Standard-clause-standard g c =
-    of_standard _ _ _ (found_is _ _ _ _ (rw c.as_slice.ensures.value at c.asked_destination.ensures) c.in-Ok-Standard.is c.in-Ok-Standard.field-0-is) c.deliver_standard.ensures.standard
-
-pub returns-in-Ok-Standard-clause-terminal : goal.returns-in-Ok-Standard-clause-terminal
-returns-in-Ok-Standard-clause-terminal g c =
-    of_standard _ _ _ (found_is _ _ _ _ (rw c.as_slice.ensures.value at c.asked_destination.ensures) c.in-Ok-Standard.is c.in-Ok-Standard.field-0-is) (λ terminal. let refused = c.deliver_standard.ensures.terminal terminal in (inl refused.0, refused.1))
-
-pub returns-in-Ok-Standard-clause-untouched : goal.returns-in-Ok-Standard-clause-untouched
-returns-in-Ok-Standard-clause-untouched g c =
-    no_file _ _ _ (found_is _ _ _ _ (rw c.as_slice.ensures.value at c.asked_destination.ensures) c.in-Ok-Standard.is c.in-Ok-Standard.field-0-is)
-
-pub returns-in-Ok-Standard-clause-pages : goal.returns-in-Ok-Standard-clause-pages
-returns-in-Ok-Standard-clause-pages g c =
-    no_pages _ _ _ (found_is _ _ _ _ (rw c.as_slice.ensures.value at c.asked_destination.ensures) c.in-Ok-Standard.is c.in-Ok-Standard.field-0-is)
-
-pub returns-in-Ok-Standard-clause-paged : goal.returns-in-Ok-Standard-clause-paged
-returns-in-Ok-Standard-clause-paged g c =
-    no_pages _ _ _ (found_is _ _ _ _ (rw c.as_slice.ensures.value at c.asked_destination.ensures) c.in-Ok-Standard.is c.in-Ok-Standard.field-0-is)
+pub returns-in-Ok-Standard : goal.returns-in-Ok-Standard
+returns-in-Ok-Standard g c =
+    let is = found_is _ _ (destination_of (map string_bytes c.args.words.items)) _ (rw c.as_slice.ensures.value at c.asked_destination.ensures) c.in-Ok-Standard.is c.in-Ok-Standard.field-0-is in record {
+      file = no_file _ _ _ is;
+      untouched = no_file _ _ _ is;
+      pages = no_pages _ _ _ is;
+      paged = no_pages _ _ _ is;
+      standard = of_standard _ _ _ is c.deliver_standard.ensures.standard;
+      terminal = of_standard _ _ _ is (λ terminal. let refused = c.deliver_standard.ensures.terminal terminal in (inl refused.0, refused.1));
+      unplaced = of_standard _ _ _ is refl;
+    }

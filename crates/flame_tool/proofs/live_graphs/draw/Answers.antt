@@ -11,72 +11,26 @@ use Rattle.live_lines.specs.Lines.{live_counts, live_text}
 use Rattle.flame_tool.specs.checked.Drawings.{DrawsAll, DrawsSome}
 use Rattle.flame_tool.specs.checked.LiveEnds.{anywhere}
 use Rattle.flame_tool.specs.declared.live_graphs.Drawn.{Drawn}
-use Rattle.flame_tool.proofs.DrawnRuns.{all_told, none_is, some_told}
+use Rattle.flame_tool.proofs.DrawnRuns.{all_told, some_told}
 use Rattle.flame_tool.proofs.FirstSaid.{first_told}
 use Rattle.flame_tool.proofs.LiveEndings.{ends_of_run}
 use Rattle.flame_tool.proofs.LiveSinks.{SameSetting, front_of_sink, same_setting}
+use Rattle.flame_tool.proofs.StrictSources.{none_of}
 use Rattle.flame_tool.proofs.live_graphs.draw.Goals as goal
 
--- ---- what was told
-
-pub returns-in-Err-clause-some : goal.returns-in-Err-clause-some
-returns-in-Err-clause-some g c =
-    let sink = c.new-sink.result in
-    let sources = ap (λ merge. merge.sources) (c.new-sink.ensures.merge ∙ c.requires.merge) in
-    some_told (length c.args.readers.items) (g.S.EndTeller.told sink.ends) (g.S.EndTeller.told c.feed_rows-fed.new.sink.ends) (ap g.S.EndTeller.told c.new-sink.ensures.ends ∙ c.requires.untold) (c.feed_rows-fed.ensures.ends (omega (arith, sources))).some
-
-pub returns-in-Err-clause-first : goal.returns-in-Err-clause-first
-returns-in-Err-clause-first g c = λ finished.
-    let sink = c.new-sink.result in
-    let left = c.feed_rows-fed.new.sink in
-    let merge = c.new-sink.ensures.merge ∙ c.requires.merge in
-    let sources = ap (λ merge. merge.sources) merge in
-    let given = (c.in-Err.ensures.ends (omega (arith, sources))).first (λ source is. finished source cc) in
-    record {
-      rests = given.rests;
-      are_given = given.are_given;
-      holds = first_told given.rests left.lines.merge.taken (g.S.EndTeller.told sink.ends) (g.S.EndTeller.told left.ends) (ap g.S.EndTeller.told c.new-sink.ensures.ends ∙ c.requires.untold)
-          (subst (λ (taken : List (ℕ × Sample)). HearsFirst anywhere anywhere given.rests taken left.lines.merge.taken (heard_of_each (g.S.EndTeller.told sink.ends)) (heard_of_each (g.S.EndTeller.told left.ends))) (ap (λ merge. merge.taken) merge) given.holds);
-    }
-
-pub returns-clause-some : goal.returns-clause-some
-returns-clause-some g c =
-    let sink = c.new-sink.result in
-    let sources = ap (λ merge. merge.sources) (c.new-sink.ensures.merge ∙ c.requires.merge) in
-    some_told (length c.args.readers.items) (g.S.EndTeller.told sink.ends) (g.S.EndTeller.told c.feed_rows-fed.new.sink.ends) (ap g.S.EndTeller.told c.new-sink.ensures.ends ∙ c.requires.untold) (c.feed_rows-fed.ensures.ends (omega (arith, sources))).some
-
-pub returns-in-Err-clause-setting : goal.returns-in-Err-clause-setting
-returns-in-Err-clause-setting g c =
-    let sink = c.new-sink.result in
-    let left = c.feed_rows-fed.new.sink in
-    let same = same_setting sink.out.ghost_name left.out.ghost_name (g.W.Outlet.contents sink.lines.start.value) (g.W.Outlet.contents left.lines.start.value) (g.W.Outlet.failures sink.lines.start.value)
-    (g.W.Outlet.failures left.lines.start.value) sink.lines.merge.form left.lines.merge.form sink.lines.merge.sources left.lines.merge.sources sink.lines.width left.lines.width sink.lines.every left.lines.every
-    (g.S.EndTeller.setting sink.ends) (g.S.EndTeller.setting left.ends) c.feed_rows-fed.ensures.setting in
-    same.kept_is ∙ ap g.S.EndTeller.setting c.new-sink.ensures.ends
-
-pub returns-clause-setting : goal.returns-clause-setting
-returns-clause-setting g c =
-    let sink = c.new-sink.result in
-    let left = c.feed_rows-fed.new.sink in
-    let same = same_setting sink.out.ghost_name left.out.ghost_name (g.W.Outlet.contents sink.lines.start.value) (g.W.Outlet.contents left.lines.start.value) (g.W.Outlet.failures sink.lines.start.value)
-    (g.W.Outlet.failures left.lines.start.value) sink.lines.merge.form left.lines.merge.form sink.lines.merge.sources left.lines.merge.sources sink.lines.width left.lines.width sink.lines.every left.lines.every
-    (g.S.EndTeller.setting sink.ends) (g.S.EndTeller.setting left.ends) c.feed_rows-fed.ensures.setting in
-    same.kept_is ∙ ap g.S.EndTeller.setting c.new-sink.ensures.ends
-
--- ---- what was drawn
-
-pub returns-in-Err-clause-err : goal.returns-in-Err-clause-err
-returns-in-Err-clause-err g c =
+-- not all was collected
+pub returns-in-Err : goal.returns-in-Err
+returns-in-Err g c =
     let answer = c.in-Err.ensures.answer in
     let parts = c.args.parts in
     let known = g.W.Outlet.contents in
     let sink = c.new-sink.result in
     let left = c.feed_rows-fed.new.sink in
-    let same = same_setting sink.out.ghost_name left.out.ghost_name (known sink.lines.start.value) (known left.lines.start.value) (g.W.Outlet.failures sink.lines.start.value)
-    (g.W.Outlet.failures left.lines.start.value) sink.lines.merge.form left.lines.merge.form sink.lines.merge.sources left.lines.merge.sources sink.lines.width left.lines.width sink.lines.every left.lines.every
-    (g.S.EndTeller.setting sink.ends) (g.S.EndTeller.setting left.ends) c.feed_rows-fed.ensures.setting in
+    let same = same_setting g.W.Outlet.contents g.W.Outlet.failures sink.out.ghost_name left.out.ghost_name sink.lines left.lines (g.S.EndTeller.setting sink.ends) (g.S.EndTeller.setting left.ends) c.feed_rows-fed.ensures.setting in
     let merge = c.new-sink.ensures.merge ∙ c.requires.merge in
+    let sources = ap (λ merge. merge.sources) merge in
     let none : sink.lines.merge.taken ≡ [] = ap (λ merge. merge.taken) merge in
+    let untold = ap g.S.EndTeller.told c.new-sink.ensures.ends ∙ c.requires.untold in
     let many = given_count (λ reader. g.R.RowReader.gives reader) c.args.readers.items answer.rests answer.are_given in
     let last = c.in-Err.out-1-own.given.1 (sym (same.name_is ∙ c.new-sink.ensures.outlet)) in
     let of_parts : SameSetting sink.out.ghost_name left.out.ghost_name (known c.args.out.now) (known left.lines.start.value) (g.W.Outlet.failures sink.lines.start.value) (g.W.Outlet.failures left.lines.start.value)
@@ -85,20 +39,49 @@ returns-in-Err-clause-err g c =
       contents_are = same.contents_are ∙ ap known c.new-sink.ensures.start;
       failures_are = same.failures_are;
       form_is = same.form_is ∙ ap (λ merge. merge.form) merge;
-      sources_are = same.sources_are ∙ (ap (λ merge. merge.sources) merge ∙ sym many);
+      sources_are = same.sources_are ∙ (sources ∙ sym many);
       width_is = same.width_is ∙ c.new-sink.ensures.width;
       every_is = same.every_is ∙ c.new-sink.ensures.every;
       kept_is = same.kept_is;
     } in
     record {
-      rests = answer.rests;
-      are_given = answer.are_given;
-      holds = subst (λ out. DrawsSome parts.merge.form parts.width parts.every (known c.args.out.now) (known out) c.in-Err.fault answer.rests) (sym last) (record {
-        taken = left.lines.merge.taken;
-        answer = subst (λ (taken : List (ℕ × Sample)). AnswersFeed anywhere anywhere answer.rests taken left.lines.merge.taken (Err c.in-Err.fault)) none answer.holds;
-        gained = front_of_sink left.lines.merge.taken (known left.out.now) of_parts left.front;
-      });
+      ok = tt;
+      err = record {
+        rests = answer.rests;
+        are_given = answer.are_given;
+        holds = subst (λ out. DrawsSome parts.merge.form parts.width parts.every (known c.args.out.now) (known out) c.in-Err.fault answer.rests) (sym last) (record {
+          taken = left.lines.merge.taken;
+          answer = subst (λ (taken : List (ℕ × Sample)). AnswersFeed anywhere anywhere answer.rests taken left.lines.merge.taken (Err c.in-Err.fault)) none answer.holds;
+          gained = front_of_sink left.lines.merge.taken (known left.out.now) of_parts left.front;
+        });
+      };
+      some = some_told (length c.args.readers.items) (g.S.EndTeller.told sink.ends) (g.S.EndTeller.told left.ends) untold (c.feed_rows-fed.ensures.ends (omega (arith, sources))).some;
+      first = λ finished.
+          let given = (c.in-Err.ensures.ends (omega (arith, sources))).first (λ source is. finished source cc) in record {
+            rests = given.rests;
+            are_given = given.are_given;
+            holds = first_told given.rests left.lines.merge.taken (g.S.EndTeller.told sink.ends) (g.S.EndTeller.told left.ends) untold
+                (subst (λ (taken : List (ℕ × Sample)). HearsFirst anywhere anywhere given.rests taken left.lines.merge.taken (heard_of_each (g.S.EndTeller.told sink.ends)) (heard_of_each (g.S.EndTeller.told left.ends))) none given.holds);
+          };
+      setting = same.kept_is ∙ ap g.S.EndTeller.setting c.new-sink.ensures.ends;
+      flushed = tt;
+      unfailed = tt;
     }
+
+-- ---- all was
+
+pub returns-clause-some : goal.returns-clause-some
+returns-clause-some g c =
+    let sink = c.new-sink.result in
+    let sources = ap (λ merge. merge.sources) (c.new-sink.ensures.merge ∙ c.requires.merge) in
+    some_told (length c.args.readers.items) (g.S.EndTeller.told sink.ends) (g.S.EndTeller.told c.feed_rows-fed.new.sink.ends) (ap g.S.EndTeller.told c.new-sink.ensures.ends ∙ c.requires.untold) (c.feed_rows-fed.ensures.ends (omega (arith, sources))).some
+
+pub returns-clause-setting : goal.returns-clause-setting
+returns-clause-setting g c =
+    let sink = c.new-sink.result in
+    let left = c.feed_rows-fed.new.sink in
+    let same = same_setting g.W.Outlet.contents g.W.Outlet.failures sink.out.ghost_name left.out.ghost_name sink.lines left.lines (g.S.EndTeller.setting sink.ends) (g.S.EndTeller.setting left.ends) c.feed_rows-fed.ensures.setting in
+    same.kept_is ∙ ap g.S.EndTeller.setting c.new-sink.ensures.ends
 
 pub returns-clause-ok : goal.returns-clause-ok
 returns-clause-ok g c =
@@ -108,9 +91,7 @@ returns-clause-ok g c =
     let sink = c.new-sink.result in
     let left = c.feed_rows-fed.new.sink in
     let sent = c.finish-sent in
-    let same = same_setting sink.out.ghost_name left.out.ghost_name (known sink.lines.start.value) (known left.lines.start.value) (g.W.Outlet.failures sink.lines.start.value)
-    (g.W.Outlet.failures left.lines.start.value) sink.lines.merge.form left.lines.merge.form sink.lines.merge.sources left.lines.merge.sources sink.lines.width left.lines.width sink.lines.every left.lines.every
-    (g.S.EndTeller.setting sink.ends) (g.S.EndTeller.setting left.ends) c.feed_rows-fed.ensures.setting in
+    let same = same_setting g.W.Outlet.contents g.W.Outlet.failures sink.out.ghost_name left.out.ghost_name sink.lines left.lines (g.S.EndTeller.setting sink.ends) (g.S.EndTeller.setting left.ends) c.feed_rows-fed.ensures.setting in
     let merge = c.new-sink.ensures.merge ∙ c.requires.merge in
     let none : sink.lines.merge.taken ≡ [] = ap (λ merge. merge.taken) merge in
     let many = given_count (λ reader. g.R.RowReader.gives reader) c.args.readers.items answer.rests answer.are_given in
@@ -139,6 +120,6 @@ returns-clause-ok g c =
         are_told = all_told answer.rests left.lines.merge.taken lists order c.in-Ok.endings.items (g.S.EndTeller.told sink.ends) (g.S.EndTeller.told left.ends) (ap g.S.EndTeller.told c.new-sink.ensures.ends ∙ c.requires.untold) run answer.holds.run.ends
             (c.in-Ok.ensures.ends (let count = ap (λ merge. merge.sources) merge in omega (arith, count))).all;
         whole = on_ok_weaker sent.result (λ none. c.is_some-is_lost.ensures ∙ ap is_some none) sent.ensures.unlost;
-        unlost = λ kept. left.unlost (none_is left.lines.failure (sym c.is_some-is_lost.ensures ∙ kept));
+        unlost = λ kept. left.unlost (none_of left.lines.failure (sym c.is_some-is_lost.ensures ∙ kept));
       });
     }

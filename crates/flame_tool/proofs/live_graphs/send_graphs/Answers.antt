@@ -1,4 +1,5 @@
 use Rattle.std.proofs.Common.{◌≡◌, ◌≢◌, ◌∙◌, [], ℕ, ap, false, length, map, refl, subst, sym}
+use Rattle.std.proofs.lemmas.Result.{IfErr-at_err, IfOk-at_ok}
 use Rattle.std.specs.List.{list_any, zip}
 use Rattle.std.specs.Prelude.{OnErr, OnOk}
 use Rattle.std.specs.Io.KnownBytes.{Appends}
@@ -12,7 +13,7 @@ use Rattle.ring_collect.specs.declared.faults.CollectFault.TheVariants.{Unfinish
 use Rattle.flame_tool.specs.checked.Drawings.{DrawsAll, DrawsSome}
 use Rattle.flame_tool.specs.checked.LiveSaying.{AreFirstTold, end_of}
 use Rattle.flame_tool.proofs.FirstSaid.{first_in_all, none_told}
-use Rattle.flame_tool.proofs.DrawnRuns.{of_err, of_ok, said_in_all, some_in_all, says_ends, says_lost, tells_all}
+use Rattle.flame_tool.proofs.DrawnRuns.{said_in_all, some_in_all, says_ends, says_lost, tells_all}
 use Rattle.ring_collect.proofs.GivenRests.{any_given}
 use Rattle.live_lines.specs.Lines.{live_lines, live_text}
 use Rattle.flame_tool.specs.ToldLive.{is_stopped}
@@ -21,7 +22,7 @@ use Rattle.flame_tool.specs.checked.EndReports.{said_at_once}
 use Rattle.flame_tool.proofs.LiveEndings.{ends_are, status_by_lists}
 use Rattle.flame_tool.proofs.LiveSaid.{none_said, not_two, uncollected_said}
 use Rattle.flame_tool.proofs.LiveSinks.{all_shown, collect_failed, drawn_text, err_because, none_shown, part_shown}
-use Rattle.flame_tool.proofs.ReportLemmas.{reports_tell, same_reports}
+use Rattle.flame_tool.proofs.ReportLemmas.{left_tell}
 use Rattle.flame_tool.proofs.live_graphs.send_graphs.Goals as goal
 
 -- ---- before a sample comes
@@ -49,7 +50,7 @@ returns-in_err-endings-clause-err g c =
     let known = g.W.Outlet.contents in
     let fault = c.in_err-endings.field-0.0 in
     let drawn = c.draw-reports in
-    let some = of_err drawn.result.1 c.in_err-endings.field-0.0 (λ fault. GiveSuch (λ reader. g.R.RowReader.gives reader) c.args.readers.items (DrawsSome parts.merge.form parts.width parts.every (known c.args.out.now) (known drawn.new.out) fault)) c.in_err-endings.was drawn.ensures.err in
+    let some = IfErr-at_err (λ fault. GiveSuch (λ reader. g.R.RowReader.gives reader) c.args.readers.items (DrawsSome parts.merge.form parts.width parts.every (known c.args.out.now) (known drawn.new.out) fault)) c.in_err-endings.was drawn.ensures.err in
     let formed = ap (λ merge. merge.form) c.in_ok-parts.ensures.merge in
     err_because c.from_residual-in_err-endings.result (failure_of_collect fault) _ c.from_residual-in_err-endings.ensures.1 (record {
       rests = some.rests;
@@ -66,16 +67,13 @@ returns-in_err-endings-clause-told_first g c =
     let failures = g.E.Outlet.failures in
     let made = c.new-reports.result in
     let left = c.draw-reports.result.0 in
-    let same = same_reports made.err.ghost_name left.err.ghost_name (known made.start.value) (known left.start.value) (failures made.start.value) (failures left.start.value) made.plan.now.is_strict left.plan.now.is_strict
-    made.plan.now.files left.plan.now.files c.draw-reports.ensures.setting in
-    let said = reports_tell left.is_at_once plan left.plan.now left.told (known c.args.err.now) (known left.start.value) (known left.err.now) (failures c.args.err.now) (failures left.start.value) (failures left.err.now)
-    (same.files_are ∙ ap (λ plan. plan.files) c.new-reports.ensures.plan) (same.strict_is ∙ ap (λ plan. plan.is_strict) c.new-reports.ensures.plan)
-    (same.contents_are ∙ ap known c.new-reports.ensures.start) (same.failures_are ∙ ap failures c.new-reports.ensures.start) left.said in
-    let last = c.in_err-endings.err-1-own.given.1 (sym (same.name_is ∙ c.new-reports.ensures.outlet)) in
+    let said = left_tell known failures plan made.plan.now left.plan.now c.args.err.now made.start.value left.start.value left.err.now made.err.ghost_name left.err.ghost_name left.is_at_once left.told
+    c.new-reports.ensures.plan c.new-reports.ensures.start c.draw-reports.ensures.setting left.said in
+    let last = c.in_err-endings.err-1-own.given.1 (sym (said.0 ∙ c.new-reports.ensures.outlet)) in
     let some = some_in_all left.is_at_once plan (length c.args.readers.items) left.told c.draw-reports.ensures.some in
-    let told = subst (λ err. Tells (said_at_once left.is_at_once plan left.told) (known c.args.err.now) (known err) (failures c.args.err.now) (failures err)) (sym last) said in
+    let told = subst (λ err. Tells (said_at_once left.is_at_once plan left.told) (known c.args.err.now) (known err) (failures c.args.err.now) (failures err)) (sym last) said.1 in
     let fault = c.in_err-endings.field-0.0 in
-    let those = of_err c.draw-reports.result.1 fault (λ fault. ((source : ℕ) → fault ≢ Unfinished source) → GiveSuch (λ reader. g.R.RowReader.gives reader) c.args.readers.items (AreFirstTold left.told)) c.in_err-endings.was c.draw-reports.ensures.first in
+    let those = IfErr-at_err (λ fault. ((source : ℕ) → fault ≢ Unfinished source) → GiveSuch (λ reader. g.R.RowReader.gives reader) c.args.readers.items (AreFirstTold left.told)) c.in_err-endings.was c.draw-reports.ensures.first in
     err_because c.from_residual-in_err-endings.result (failure_of_collect fault) _ c.from_residual-in_err-endings.ensures.1 (uncollected_said _ _ _ _ fault
     (record { said = said_at_once left.is_at_once plan left.told; is_such = some; says = told })
     (λ finished. let given = those finished in record { rests = given.rests; are_given = given.are_given; holds = first_in_all left.is_at_once plan _ left.told given.rests given.holds told }))
@@ -88,7 +86,7 @@ returns-in-Err-clause-err g c =
     let plan = c.args.plan.now in
     let known = g.W.Outlet.contents in
     let drawn = c.draw-reports in
-    let all = of_ok drawn.result.1 c.in_ok-endings.field-0 (λ done. GiveSuch (λ reader. g.R.RowReader.gives reader) c.args.readers.items (DrawsAll parts.merge.form parts.width parts.every (known c.args.out.now) (known drawn.new.out) done drawn.result.0.told)) c.in_ok-endings.was drawn.ensures.ok in
+    let all = IfOk-at_ok (λ done. GiveSuch (λ reader. g.R.RowReader.gives reader) c.args.readers.items (DrawsAll parts.merge.form parts.width parts.every (known c.args.out.now) (known drawn.new.out) done drawn.result.0.told)) c.in_ok-endings.was drawn.ensures.ok in
     let form = ap (λ merge. merge.form) c.in_ok-parts.ensures.merge in
     let text = drawn_text plan parts.width parts.every c.args.is_terminal c.in_ok-parts.ensures.view c.in_ok-parts.ensures.every parts.merge.form form all.rests all.holds.taken all.holds.lists all.holds.order all.holds.run in
     record {
@@ -109,17 +107,13 @@ returns-in-Err-clause-told_first g c =
     let rest = c.report_rest in
     let told = left.told in
     let is_lost = c.in_ok-endings.field-0.is_lost in
-    let same = same_reports made.err.ghost_name left.err.ghost_name (known made.start.value) (known left.start.value) (failures made.start.value) (failures left.start.value) made.plan.now.is_strict left.plan.now.is_strict
-    made.plan.now.files left.plan.now.files c.draw-reports.ensures.setting in
-    let said = reports_tell left.is_at_once plan left.plan.now told (known c.args.err.now) (known left.start.value) (known left.err.now) (failures c.args.err.now) (failures left.start.value) (failures left.err.now)
-    (same.files_are ∙ ap (λ plan. plan.files) c.new-reports.ensures.plan) (same.strict_is ∙ ap (λ plan. plan.is_strict) c.new-reports.ensures.plan)
-    (same.contents_are ∙ ap known c.new-reports.ensures.start) (same.failures_are ∙ ap failures c.new-reports.ensures.start) left.said in
-    let all = of_ok c.draw-reports.result.1 c.in_ok-endings.field-0 (λ done. GiveSuch (λ reader. g.R.RowReader.gives reader) c.args.readers.items (DrawsAll parts.merge.form parts.width parts.every (g.W.Outlet.contents c.args.out.now) (g.W.Outlet.contents c.draw-reports.new.out) done told)) c.in_ok-endings.was c.draw-reports.ensures.ok in
+    let said = left_tell known failures plan made.plan.now left.plan.now c.args.err.now made.start.value left.start.value left.err.now made.err.ghost_name left.err.ghost_name left.is_at_once told
+    c.new-reports.ensures.plan c.new-reports.ensures.start c.draw-reports.ensures.setting left.said in
+    let all = IfOk-at_ok (λ done. GiveSuch (λ reader. g.R.RowReader.gives reader) c.args.readers.items (DrawsAll parts.merge.form parts.width parts.every (g.W.Outlet.contents c.args.out.now) (g.W.Outlet.contents c.draw-reports.new.out) done told)) c.in_ok-endings.was c.draw-reports.ensures.ok in
     let ends = zip c.deref.result.now c.counts-counts.result.now in
     let ended : ends ≡ map end_of all.holds.lists = (λ i. zip (c.deref.ensures.value i) (c.counts-counts.ensures i)) ∙ ends_are _ _ all.holds.lists all.holds.ends in
-    let whole = tells_all left.is_at_once is_lost plan told ends (known c.args.err.now) (known left.err.now) (known rest.new.err) (failures c.args.err.now) (failures left.err.now) (failures rest.new.err) said rest.ensures.told
-    (λ at_once. let stays = rest.ensures.untold at_once in (ap known stays, ap failures stays)) in
-    let last = c.err-2-1.given.1 (sym (same.name_is ∙ c.new-reports.ensures.outlet)) in
+    let whole = tells_all known failures left.is_at_once is_lost plan told ends c.args.err.now left.err.now rest.new.err said.1 rest.ensures.told rest.ensures.untold in
+    let last = c.err-2-1.given.1 (sym (said.0 ∙ c.new-reports.ensures.outlet)) in
     let says = subst (λ err. Tells (said_in_all left.is_at_once plan is_lost told ends) (known c.args.err.now) (known err) (failures c.args.err.now) (failures err)) (sym last) whole in
     record {
       rests = all.rests;
@@ -133,7 +127,7 @@ returns-clause-ok g c =
     let plan = c.args.plan.now in
     let known = g.W.Outlet.contents in
     let drawn = c.draw-reports in
-    let all = of_ok drawn.result.1 c.in_ok-endings.field-0 (λ done. GiveSuch (λ reader. g.R.RowReader.gives reader) c.args.readers.items (DrawsAll parts.merge.form parts.width parts.every (known c.args.out.now) (known drawn.new.out) done drawn.result.0.told)) c.in_ok-endings.was drawn.ensures.ok in
+    let all = IfOk-at_ok (λ done. GiveSuch (λ reader. g.R.RowReader.gives reader) c.args.readers.items (DrawsAll parts.merge.form parts.width parts.every (known c.args.out.now) (known drawn.new.out) done drawn.result.0.told)) c.in_ok-endings.was drawn.ensures.ok in
     let form = ap (λ merge. merge.form) c.in_ok-parts.ensures.merge in
     let text = drawn_text plan parts.width parts.every c.args.is_terminal c.in_ok-parts.ensures.view c.in_ok-parts.ensures.every parts.merge.form form all.rests all.holds.taken all.holds.lists all.holds.order all.holds.run in
     let told = c.status_of_ends.ensures ∙ (λ i. status_by_ends plan.is_strict (c.deref-2.ensures.value i) (c.counts-counts.ensures i)) ∙ status_by_lists plan.is_strict _ _ all.holds.lists all.holds.ends in
@@ -156,17 +150,13 @@ returns-clause-told g c =
     let rest = c.report_rest in
     let told = left.told in
     let is_lost = c.in_ok-endings.field-0.is_lost in
-    let same = same_reports made.err.ghost_name left.err.ghost_name (known made.start.value) (known left.start.value) (failures made.start.value) (failures left.start.value) made.plan.now.is_strict left.plan.now.is_strict
-    made.plan.now.files left.plan.now.files c.draw-reports.ensures.setting in
-    let said = reports_tell left.is_at_once plan left.plan.now told (known c.args.err.now) (known left.start.value) (known left.err.now) (failures c.args.err.now) (failures left.start.value) (failures left.err.now)
-    (same.files_are ∙ ap (λ plan. plan.files) c.new-reports.ensures.plan) (same.strict_is ∙ ap (λ plan. plan.is_strict) c.new-reports.ensures.plan)
-    (same.contents_are ∙ ap known c.new-reports.ensures.start) (same.failures_are ∙ ap failures c.new-reports.ensures.start) left.said in
-    let all = of_ok c.draw-reports.result.1 c.in_ok-endings.field-0 (λ done. GiveSuch (λ reader. g.R.RowReader.gives reader) c.args.readers.items (DrawsAll parts.merge.form parts.width parts.every (g.W.Outlet.contents c.args.out.now) (g.W.Outlet.contents c.draw-reports.new.out) done told)) c.in_ok-endings.was c.draw-reports.ensures.ok in
+    let said = left_tell known failures plan made.plan.now left.plan.now c.args.err.now made.start.value left.start.value left.err.now made.err.ghost_name left.err.ghost_name left.is_at_once told
+    c.new-reports.ensures.plan c.new-reports.ensures.start c.draw-reports.ensures.setting left.said in
+    let all = IfOk-at_ok (λ done. GiveSuch (λ reader. g.R.RowReader.gives reader) c.args.readers.items (DrawsAll parts.merge.form parts.width parts.every (g.W.Outlet.contents c.args.out.now) (g.W.Outlet.contents c.draw-reports.new.out) done told)) c.in_ok-endings.was c.draw-reports.ensures.ok in
     let ends = zip c.deref.result.now c.counts-counts.result.now in
     let ended : ends ≡ map end_of all.holds.lists = (λ i. zip (c.deref.ensures.value i) (c.counts-counts.ensures i)) ∙ ends_are _ _ all.holds.lists all.holds.ends in
-    let whole = tells_all left.is_at_once is_lost plan told ends (known c.args.err.now) (known left.err.now) (known rest.new.err) (failures c.args.err.now) (failures left.err.now) (failures rest.new.err) said rest.ensures.told
-    (λ at_once. let stays = rest.ensures.untold at_once in (ap known stays, ap failures stays)) in
-    let last = c.err-2-1.given.1 (sym (same.name_is ∙ c.new-reports.ensures.outlet)) in
+    let whole = tells_all known failures left.is_at_once is_lost plan told ends c.args.err.now left.err.now rest.new.err said.1 rest.ensures.told rest.ensures.untold in
+    let last = c.err-2-1.given.1 (sym (said.0 ∙ c.new-reports.ensures.outlet)) in
     let says = subst (λ err. Tells (said_in_all left.is_at_once plan is_lost told ends) (known c.args.err.now) (known err) (failures c.args.err.now) (failures err)) (sym last) whole in
     let kept = subst (λ sent. OnOk sent (is_lost ≡ false)) c.in_default.is all.holds.whole in
     let status = c.status_of_ends.ensures ∙ (λ i. status_by_ends plan.is_strict (c.deref-2.ensures.value i) (c.counts-counts.ensures i)) ∙ status_by_lists plan.is_strict _ _ all.holds.lists all.holds.ends in

@@ -4,23 +4,24 @@ use Rattle.command_line.specs.Plans.{limit_of}
 use Rattle.command_line.specs.declared.plans.Form.TheVariants as form
 use Rattle.function_sums.specs.declared.call_sides.CallSide.TheVariants.{Callers, Callees}
 use Rattle.source_views.specs.Messages.{Tells, message_of_failure}
+use Rattle.source_views.specs.declared.failures.Failure.{Failure}
 use Rattle.source_views.specs.declared.failures.Failure.TheVariants.{TooManyFiles}
 use Rattle.flame_tool.specs.Pages.{asked_heading, called_text, page_text, peeked_text, picture_text, told_in}
 use Rattle.flame_tool.proofs.PageLemmas.{orderless_page}
 use Rattle.source_views.specs.Texts.{told_text, view_text}
 use Rattle.flame_tool.specs.KnownFacts.{known_sources}
 use Rattle.flame_tool.specs.KnownRuns.{PlanShows, as_files, change}
-use Rattle.flame_tool.specs.Runs.{ShowsSamples}
+use Rattle.flame_tool.specs.Runs.{ShowsFront, ShowsSamples}
 use Rattle.flame_tool.specs.StrictRuns.{has_strict_fault}
-use Rattle.flame_tool.specs.TypeRuns.{known_profile}
-use Rattle.flame_tool.specs.checked.Failures.{TellsGrowth, exit_status}
-use Rattle.flame_tool.proofs.ExitStatuses.{at_success, faulty_at_one, few_but_at_two, flushed_at_success, front_at_three, kept_at, many_at_two, of_answer, status_within, types_faulty_at_one, types_front_at_three, unfailed_but_at_three}
+use Rattle.flame_tool.specs.TypeRuns.{ShowsTypesFront, known_profile}
+use Rattle.flame_tool.specs.checked.Failures.{Fails, FailsStrictly, TellsGrowth, exit_status}
+use Rattle.flame_tool.specs.checked.TypeFailures.{FailsTypes}
+use Rattle.flame_tool.proofs.ExitStatuses.{at_success, faulty_at_one, few_but_at_two, flushed_at_success, front_at_three, kept_at, many_at_two, of_answer, status_within, unfailed_but_at_three}
 use Rattle.flame_tool.proofs.RunEndings.{form_exactly, orderless, plainly}
 use Rattle.flame_tool.proofs.SaidSources.{EndsOfSources, EndsOfTypes, ends_of_sources, ends_of_types, failure_told}
-use Rattle.flame_tool.proofs.StrictEndings.{strict_at_one, strict_untouched}
 use Rattle.flame_tool.proofs.ToldEndings.{is_none}
 use Rattle.flame_tool.proofs.TypeEndings.{err_where, ok_where}
-use Rattle.flame_tool.proofs.UntouchedOutputs.{untouched_at_fault, untouched_at_table_fault}
+use Rattle.flame_tool.proofs.UntouchedOutputs.{strict_untouched, untouched_at_fault, untouched_at_table_fault}
 use Rattle.flame_tool.proofs.plan_run.run_plan.Goals as goal
 
 pub returns : goal.returns
@@ -50,6 +51,7 @@ returns g c =
     let said_types = λ (none : g.F.Files.may_have_terminal ≡ false) (types : plan.form ≡ form.Types). subst (λ start. EndsOfTypes (contents start) (contents end) (failures start) (failures end) plan.files profile (exit_status result)) (c.await_input.ensures.untold none)
     (ends_of_types contents failures plan.files profile _ mid end result ((ran.typed types).says none) c.end_run.ensures.untold (told none)) in
     let types = ok_where _ _ result (λ is. (ran.typed is).done) in
+    let fails_types = λ (failure : Failure). plan.form ≡ form.Types → IfSome profile (FailsTypes old new failure) in
     let types_err = err_where _ _ result (λ is. (ran.typed is).failed) in
     let grown = of_answer (λ is_over. IfSome sources (TellsGrowth is_over plan)) result showed.grown in
     subst (λ answer. PlanShows plan (as_files input named g.F.Files.may_have_terminal) answer (change old new before after) (change (contents start) (contents end) (failures start) (failures end)) (g.W.Outlet.is_flushed shown.new.out)) (sym c.end_run.ensures.status) (record {
@@ -71,18 +73,18 @@ returns g c =
       shown_callers = λ success table. form_exactly plan old new (form.Callers table) (called_text Callers table plan) tt (λ facts lists order. refl) sources (at_success result success showed.done);
       shown_callees = λ success table. form_exactly plan old new (form.Callees table) (called_text Callees table plan) tt (λ facts lists order. refl) sources (at_success result success showed.done);
       shown_peek = λ success table. form_exactly plan old new (form.Peek table) (peeked_text table plan) tt (λ facts lists order. refl) sources (at_success result success showed.done);
-      faulty = λ one. faulty_at_one plan sources old new result one showed.failed;
-      partly = λ three. front_at_three plan sources old new result three showed.kept showed.failed;
+      faulty = λ one. faulty_at_one (λ failure. IfSome sources (Fails plan old new failure)) result one showed.failed;
+      partly = λ three. front_at_three (λ failure. IfSome sources (Fails plan old new failure)) (IfSome sources (ShowsFront plan old new)) old new (λ fault front. front) result three showed.kept showed.failed;
       untouched = λ samples. untouched_at_fault _ plan old new before after samples sources result showed.done showed.failed showed.kept showed.flushed;
       strict = λ success samples strict. at_success result success (showed.strict samples strict);
-      strict_faulty = λ one samples strict. strict_at_one (has_strict_fault plan.options) sources result one (showed.strict_failed samples strict);
+      strict_faulty = λ one samples strict. faulty_at_one (λ failure. IfSome sources (λ sources. FailsStrictly (has_strict_fault plan.options sources) failure)) result one (showed.strict_failed samples strict);
       strict_untouched = λ samples strict. strict_untouched (has_strict_fault plan.options) sources _ old new before after result (showed.strict samples strict) (showed.strict_failed samples strict) showed.kept showed.flushed;
       limit = λ four. (of_answer (λ is_over. is_over ≡ true → IsSome (limit_of plan.view)) result showed.limit).1 four refl;
       grown = grown.1;
       not_grown = grown.0;
       types = λ success. at_success result success types;
-      types_faulty = λ one. types_faulty_at_one _ profile old new result one types_err;
-      types_partly = λ three. types_front_at_three _ profile old new result three showed.kept types_err;
+      types_faulty = λ one. faulty_at_one fails_types result one types_err;
+      types_partly = λ three. front_at_three fails_types (plan.form ≡ form.Types → IfSome profile (ShowsTypesFront old new)) old new (λ fault front. front) result three showed.kept types_err;
       types_untouched = untouched_at_table_fault _ old new before after _ profile result types types_err showed.kept showed.flushed;
       told = λ none low samples. (said none samples).low low;
       told_grown = λ none four samples. (said none samples).grown four;

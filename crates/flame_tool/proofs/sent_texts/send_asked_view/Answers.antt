@@ -1,4 +1,4 @@
-use Rattle.std.proofs.Common.{◌≡◌, ◌∙◌, List, ap, map, subst, ℕ}
+use Rattle.std.proofs.Common.{◌∙◌, List, ap, map, subst}
 use Rattle.merged_stacks.specs.Timeline.{samples_of}
 use Rattle.page_texts.specs.Drawn.{source_of}
 use Rattle.page_texts.specs.Page.{PageSource}

@@ -1,6 +1,6 @@
 use Rattle.std.proofs.Common.{◌∙◌, string_bytes, sym}
 use Rattle.flame_tool.specs.NextSteps.{asks_format}
-use Rattle.flame_tool.proofs.StepWords.{list_any-map}
+use Rattle.flame_tool.proofs.MappedTests.{list_any-map}
 use Rattle.flame_tool.proofs.step_commands.has_format.Goals as goal
 
 pub returns : goal.returns

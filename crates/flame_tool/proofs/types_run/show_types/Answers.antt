@@ -1,9 +1,10 @@
-use Rattle.std.proofs.Common.{◌≡◌, ℕ, List, Some, IfSome, IfErr, OnOk, subst, rules, map, get_or, string_bytes}
+use Rattle.std.proofs.Common.{◌≡◌, ◌<◌, ℕ, List, Some, IfSome, IfErr, OnOk, arith, length, subst, rules, map, get_or, string_bytes}
 use Rattle.std.specs.Prelude.{option_and_then, slice_get}
 use Rattle.std.proofs.lemmas.Option.{IfSome_then, same_Some}
 use Rattle.flame_tool.specs.TypeRuns.{ShowsTypes}
 use Rattle.flame_tool.specs.checked.TypeFailures.{FailsTypes}
-use Rattle.flame_tool.proofs.TypeEndings.{first_path, known_err, known_ok, some_path}
+use Rattle.flame_tool.proofs.LiveSaid.{as_many_paths}
+use Rattle.flame_tool.proofs.TypeEndings.{first_path, known_err, known_ok}
 use Rattle.flame_tool.proofs.types_run.show_types.Goals as goal
 
 pub returns : goal.returns
@@ -16,7 +17,7 @@ returns g c =
     let read = c.in_ok-source.source.bytes.items in
     let result = c.show_types_of.result in
     let ran = c.show_types_of.ensures in
-    let some = some_path string_bytes paths c.args.plan.now.files c.get-paths.ensures c.requires.one in
+    let some : 0 < length paths = omega (arith, as_many_paths string_bytes paths c.args.plan.now.files c.get-paths.ensures, c.requires.one) in
     let is : path ≡ get_or paths 0 path = search rules in
     let named : c.deref.result.now ≡ string_bytes path = search rules in
     let here = IfSome_then (known (string_bytes path)) (subst (λ (name : List ℕ). IfSome (known name) (λ bytes. Some read ≡ Some bytes)) named c.in_ok-source.ensures.opened.1) (same_Some read) in

@@ -6,8 +6,8 @@ use super::options_with;
 use super::parts::{long_text, one_input, one_stored, read_as_one};
 use crate::tests::holds;
 use run_options::{Format, Pick};
-use source_lists::{Input, Run, RunFault, read_sums};
-use stack_core::{ReadFault, ReadKind, SourceEnd, SourceList};
+use source_lists::{Input, Run, RunFault, read_open};
+use stack_core::{NoSink, ReadFault, ReadKind, SourceEnd, SourceList};
 use std::alloc::Global;
 use std::sync::Wait;
 use std::test::Fail;
@@ -29,7 +29,8 @@ fn run_of_sums<T: Threads + Wait + Copy + Send + 'static>(
 ) -> Result<Run, RunFault>
     requires { length inputs.items ≤ 64 }
 {
-    read_sums(rt, alloc, inputs, &options_with(alloc, Pick::Preferred))
+    let options = options_with(alloc, Pick::Preferred);
+    read_open(rt, alloc, inputs, &options, true, &mut NoSink::new())
 }
 
 fn has_weights(list: &SourceList, weights: &[u64]) -> bool {
